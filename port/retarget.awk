@@ -6,8 +6,8 @@
 # the two where its first argument points. The files port/*.c give C's functions over these. A function that is to be
 # left out stays hidden, so that the compiler drops it with all that it alone calls. A function that stands by itself
 # in the proved library is not put into its caller: else its frame would be there while another function with a large
-# one runs, and a call would need twice the stack. Nothing else is changed. It stops where the module is not of the
-# form that it knows.
+# one runs, and a call would need twice the stack. Two values of which one is an address are loaded one by one (see
+# apart_loaded). Nothing else is changed. It stops where the module is not of the form that it knows.
 # Usage: awk -v crate=NAME -v without=EXPORTED_NAME -f port/retarget.awk NAMES MODULE.ll >CORE.ll
 #   NAMES: a file with the functions that stand by themselves, a line each, such as survey::survey
 
@@ -45,6 +45,24 @@ function of_pair(line, inside, name,    first, second, parameters) {
         "  ret void\n}\n"
 }
 
+# A load of a pair of which one half is an address, as two loads from bytes 0 and 8: there the module's own stores have
+# put the halves, which are apart by 8 bytes on x86-64. The pair's type would lie otherwise where addresses are shorter.
+function apart_loaded(line,    value, type, from, halves) {
+    match(line, /%[^ ]+/)
+    value = substr(line, RSTART, RLENGTH)
+    match(line, /\{ [a-z0-9]+, [a-z0-9]+ \}/)
+    type = substr(line, RSTART, RLENGTH)
+    from = line
+    sub(/^.*, ptr /, "", from)
+    sub(/,.*$/, "", from)
+    split(substr(type, 3, length(type) - 4), halves, ", ")
+    return "  " value ".first = load " halves[1] ", ptr " from ", align 8\n" \
+        "  " value ".place = getelementptr i8, ptr " from ", i64 8\n" \
+        "  " value ".second = load " halves[2] ", ptr " value ".place, align 8\n" \
+        "  " value ".half = insertvalue " type " poison, " halves[1] " " value ".first, 0\n" \
+        "  " value " = insertvalue " type " " value ".half, " halves[2] " " value ".second, 1"
+}
+
 FILENAME == ARGV[1] { apart[$0] = 1; next }
 /^target datalayout = / {
     layouts++
@@ -77,6 +95,7 @@ inside { if (/^}/) inside = 0; next }
 /^declare / && !/@llvm\.(mem(cpy|move|set)\.p0|ctlz|cttz|ctpop|bswap|trap|assume|fsh[lr]|[us](min|max)|[us](add|sub|mul)\.)/ {
     complain("it calls something that is not known here: " $0)
 }
+/^ *%[^ ]+ = load \{ (ptr, i[0-9]+|i[0-9]+, ptr|ptr, ptr) \}, ptr %[^ ,]+, align 8$/ { print apart_loaded($0); next }
 / (ptrtoint|inttoptr|addrspacecast) | asm |x86_|byval| va_arg| (load|store|alloca|getelementptr) .*(\{ ptr|, ptr \})/ && !/^attributes/ { complain("this holds on x86-64 alone: " $0) }
 /^@/ && !/ constant / { complain("the module has memory of its own: " $0) }
 /^attributes / { gsub(/ "(probe-stack|stack-probe-size|target-cpu)"="[^"]*"/, "") }

@@ -1,4 +1,5 @@
 -- Laws of the accounting state: the search for a hold record, what charging and refunding do, and what storing a record does.
+use Rattle.std.specs.Prelude.{Some, None}
 use Prim.Native.Nat.{ℕ, zero, suc, ◌+◌, ◌-◌, ◌^◌, ◌≤◌, ◌<◌}
 use native.Mathlib.Nat.{add-zero}
 use native.Mathlib.Omega.{arith}
@@ -15,7 +16,6 @@ use Rattle.accounts.specs.declared.Quota.{Quota}
 use Rattle.accounts.specs.declared.Hold.{Hold}
 use Rattle.accounts.specs.declared.Accounts.{Accounts}
 use Rattle.accounts.specs.declared.settings.Settings.{Settings}
-use Rattle.accounts.specs.declared.Place.TheVariants.{At, Nothing}
 use Rattle.accounts.specs.Accounts.{QUOTAS, HOLDS, zero_quota, zero_hold, zero_accounts, with_remainder, with_quotas, with_holds}
 use Rattle.accounts.specs.Accounts.{with_last_serial, grants, granted, opened}
 use Rattle.accounts.specs.Accounts.{quota_at, remaining, spent, put_quota, change_quota, less_paid, paid_back, charged, refunded, charge, refund}
@@ -30,8 +30,8 @@ pub record First (p : Hold → Bool) (hs : List Hold) (i : ℕ) : Type 0 where
   pub earlier : (j : ℕ) → j < i → p (get_or hs j zero_hold) ≡ false
 
 -- no record passes a test
-abbrev pub None : (Hold → Bool) → List Hold → Type 0
-None p hs = (j : ℕ) → j < length hs → p (get_or hs j zero_hold) ≡ false
+abbrev pub NoneOf : (Hold → Bool) → List Hold → Type 0
+NoneOf p hs = (j : ℕ) → j < length hs → p (get_or hs j zero_hold) ≡ false
 
 -- what holds at 0, and at each successor of a number below n, holds below the successor of n
 headed : (P : ℕ → Type 0) (n : ℕ) → P 0 → ((j : ℕ) → j < n → P (suc j)) → (j : ℕ) → j < suc n → P j
@@ -41,20 +41,20 @@ headed P n here later (suc j) l = later j (omega arith)
 module _ (p : Hold → Bool) where
   -- what a search from place n on comes to: the first record that passes, or nothing where none does
   Searched : ℕ → List Hold → Type 0
-  Searched n hs = ((i : ℕ) × (first_from p n hs ≡ At (n + i)) × First p hs i) ⊎ ((first_from p n hs ≡ Nothing) × None p hs)
+  Searched n hs = ((i : ℕ) × (first_from p n hs ≡ Some (n + i)) × First p hs i) ⊎ ((first_from p n hs ≡ None) × NoneOf p hs)
 
   by_test : (n : ℕ) (h : Hold) (hs : List Hold) (x : Bool) → p h ≡ x → Searched (suc n) hs → Searched n (h ∷ hs)
   unfolding Searched first_from
   by_test n h hs true e s =
       let here : n ≡ n + 0 = omega arith in
-      inl (0, rw e (ap At here), record { within = omega arith; passes = e; earlier = λ j l. absurd (omega arith) })
+      inl (0, rw e (ap Some here), record { within = omega arith; passes = e; earlier = λ j l. absurd (omega arith) })
   by_test n h hs false e s =
       ⊎_elim
       (λ f.
       let there : suc n + f.0 ≡ n + suc f.0 = omega arith in
       inl (
         suc f.0,
-        rw e (f.1 ∙ ap At there),
+        rw e (f.1 ∙ ap Some there),
         record {
           within = omega (arith, f.2.within);
           passes = f.2.passes;
@@ -70,10 +70,10 @@ module _ (p : Hold → Bool) where
   searched n (h ∷ hs) = by_test n h hs (p h) refl (searched (suc n) hs)
 
   -- a search that starts at place n counts on from there
-  first_later : (n : ℕ) (hs : List Hold) (i : ℕ) → First p hs i → first_from p n hs ≡ At (n + i)
+  first_later : (n : ℕ) (hs : List Hold) (i : ℕ) → First p hs i → first_from p n hs ≡ Some (n + i)
   unfolding first_from
   first_later n [] i f = absurd (omega (arith, f.within))
-  first_later n (h ∷ hs) zero f = let here : n ≡ n + 0 = omega arith in rw f.passes (ap At here)
+  first_later n (h ∷ hs) zero f = let here : n ≡ n + 0 = omega arith in rw f.passes (ap Some here)
   first_later n (h ∷ hs) (suc i) f =
       let later : First p hs i = record {
         within = omega (arith, f.within);
@@ -82,11 +82,11 @@ module _ (p : Hold → Bool) where
             λ j l. f.earlier (suc j) (omega arith);
       } in
       let there : suc n + i ≡ n + suc i = omega arith in
-      rw (f.earlier 0 (omega arith)) (first_later (suc n) hs i later ∙ ap At there)
+      rw (f.earlier 0 (omega arith)) (first_later (suc n) hs i later ∙ ap Some there)
 
   module _ (hs : List Hold) where
     -- the place that a search finds is the first one that passes, and it finds that
-    pub found_first : (i : ℕ) → first_from p 0 hs ≡ At i → First p hs i
+    pub found_first : (i : ℕ) → first_from p 0 hs ≡ Some i → First p hs i
     unfolding Searched
     found_first i e =
         ⊎_elim
@@ -94,16 +94,16 @@ module _ (p : Hold → Bool) where
         (λ f. let no : ◌≡◌ {A = ℕ} 0 1 = cc in absurd (omega arith))
         (searched 0 hs)
 
-    pub first_found : (i : ℕ) → First p hs i → first_from p 0 hs ≡ At i
-    first_found i f = let same : 0 + i ≡ i = omega arith in first_later 0 hs i f ∙ ap At same
+    pub first_found : (i : ℕ) → First p hs i → first_from p 0 hs ≡ Some i
+    first_found i f = let same : 0 + i ≡ i = omega arith in first_later 0 hs i f ∙ ap Some same
 
     -- a search finds nothing exactly where no record passes
-    pub nothing_none : first_from p 0 hs ≡ Nothing → None p hs
+    pub nothing_none : first_from p 0 hs ≡ None → NoneOf p hs
     unfolding Searched
     nothing_none e =
         ⊎_elim (λ f. let no : ◌≡◌ {A = ℕ} 0 1 = cc in absurd (omega arith)) (λ f. f.1) (searched 0 hs)
 
-    pub none_nothing : None p hs → first_from p 0 hs ≡ Nothing
+    pub none_nothing : NoneOf p hs → first_from p 0 hs ≡ None
     unfolding Searched
     none_nothing none =
         ⊎_elim (λ f. absurd (true≢false (sym f.2.passes ∙ none f.0 f.2.within))) (λ f. f.0) (searched 0 hs)

@@ -1,4 +1,5 @@
 -- Small cases of the definitions, computed: both sides of what a charge and a refund allow, and the places that a search finds.
+use Rattle.std.specs.Prelude.{Some, None}
 use Prim.Native.Nat.{◌+◌, ◌-◌}
 use mathlib.Core.Path.{◌≡◌, refl}
 use mathlib.Core.Bool.{true, false}
@@ -7,7 +8,6 @@ use lib.ListN.{replicate}
 use Rattle.accounts.specs.declared.Quota.{Quota}
 use Rattle.accounts.specs.declared.Hold.{Hold}
 use Rattle.accounts.specs.declared.Accounts.{Accounts}
-use Rattle.accounts.specs.declared.Place.TheVariants.{At, Nothing}
 use Rattle.accounts.specs.declared.settings.Kind.TheVariants.{Plain, Quarantine}
 use Rattle.accounts.specs.declared.settings.Edition.TheVariants.{First, Second}
 use Rattle.accounts.specs.Accounts.{QUOTAS, HOLDS, zero_hold, zero_accounts, with_quotas, with_last_serial, with_kind, with_edition, granted, plain}
@@ -118,13 +118,13 @@ unfolding used
 used_rows = refl
 
 -- the search finds the record by serial and quota; dropping it leaves none; a place past the table stores nothing
-pub place_rows : (map (λ s. find_hold s 1 held) (7 ∷ 8 ∷ 0 ∷ []) ≡ At 2 ∷ Nothing ∷ Nothing ∷ [])
-    × (find_hold 7 0 held ≡ Nothing) × (lowest_unused held ≡ At 0) × (drop_hold 2 held ≡ five) × (put_hold HOLDS holder five ≡ five)
+pub place_rows : (map (λ s. find_hold s 1 held) (7 ∷ 8 ∷ 0 ∷ []) ≡ Some 2 ∷ None ∷ None ∷ [])
+    × (find_hold 7 0 held ≡ None) × (lowest_unused held ≡ Some 0) × (drop_hold 2 held ≡ five) × (put_hold HOLDS holder five ≡ five)
 unfolding five holder held opened used unused is_for first_from find_hold lowest_unused put_hold drop_hold
 place_rows = (refl, refl, refl, refl, refl)
 
 -- an unused record is nobody's; the record at a place, zeros past the table
-pub unused_rows : (find_hold 0 0 held ≡ Nothing) × (record_of 0 zero_hold ≡ false)
+pub unused_rows : (find_hold 0 0 held ≡ None) × (record_of 0 zero_hold ≡ false)
     × (map (λ i. hold_at i held) (1 ∷ 2 ∷ 3 ∷ HOLDS ∷ []) ≡ zero_hold ∷ holder ∷ zero_hold ∷ zero_hold ∷ [])
 unfolding five holder held opened used is_for first_from find_hold put_hold hold_at
 unused_rows = (refl, refl, refl)

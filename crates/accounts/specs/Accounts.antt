@@ -1,5 +1,6 @@
 -- The accounts (rules, section 3): quotas, the last serial given, and hold records.
-use Rattle.std.specs.Prelude.{ℕ, suc, ◌+◌, ◌*◌, ◌-◌, ◌/◌, ◌%◌, ◌^◌, List, [], ◌∷◌, map, Bool, not, cond, ◌&&◌, get_or, set, replicate, leb, ltb, eqb}
+use Rattle.std.specs.Prelude.{ℕ, suc, ◌+◌, ◌*◌, ◌-◌, ◌/◌, ◌%◌, ◌^◌, List, [], ◌∷◌, map, Bool, not, cond, ◌&&◌, get_or}
+use Rattle.std.specs.Prelude.{set, replicate, leb, ltb, eqb, Option, Some, None}
 use Rattle.accounts.specs.declared.Quota.{Quota}
 use Rattle.accounts.specs.declared.Hold.{Hold}
 use Rattle.accounts.specs.declared.Accounts.{Accounts}
@@ -8,8 +9,6 @@ use Rattle.accounts.specs.declared.settings.Kind.TheVariants.{Plain, Quarantine}
 use Rattle.accounts.specs.declared.settings.Edition.{Edition}
 use Rattle.accounts.specs.declared.settings.Edition.TheVariants.{First, Second}
 use Rattle.accounts.specs.declared.settings.Settings.{Settings}
-use Rattle.accounts.specs.declared.Place.{Place}
-use Rattle.accounts.specs.declared.Place.TheVariants.{At, Nothing}
 
 -- rule 3.2: the number of quotas and of hold records
 abbrev pub QUOTAS : ℕ
@@ -170,17 +169,17 @@ unfoldable pub is_for : ℕ → ℕ → Hold → Bool
 is_for serial q h = used h && eqb h.serial serial && eqb h.quota q
 
 -- the first place from n on whose record passes a test
-unfoldable pub first_from : (Hold → Bool) → ℕ → List Hold → Place
-first_from p n [] = Nothing
+unfoldable pub first_from : (Hold → Bool) → ℕ → List Hold → Option ℕ
+first_from p n [] = None
 first_from p n (h ∷ hs) =
     let later = first_from p (suc n) hs in
-    cond (p h) (At n) later
+    cond (p h) (Some n) later
 
 -- the place of the quota's record for a serial; the place of the lowest unused record
-unfoldable pub find_hold : ℕ → ℕ → Accounts → Place
+unfoldable pub find_hold : ℕ → ℕ → Accounts → Option ℕ
 find_hold serial q k = first_from (is_for serial q) 0 k.holds
 
-unfoldable pub lowest_unused : Accounts → Place
+unfoldable pub lowest_unused : Accounts → Option ℕ
 lowest_unused k = first_from unused 0 k.holds
 
 -- the record at a place, of zeros where there is none

@@ -2,7 +2,7 @@
 #![tactic(auto)]
 
 ghost use Rattle.std.specs.Prelude.{◌<◌, ◌≡◌};
-ghost use Rattle.accounts.specs.Accounts.{zero_hold, zero_accounts, begun, charged, refunded, used, dropped, opened};
+ghost use Rattle.accounts.specs.Accounts.{zero_hold, zero_accounts, granted, begun, charged, refunded, used, dropped, opened};
 ghost use Rattle.accounts.specs.Accounts.{remaining, spent, charge, refund};
 ghost use Rattle.accounts.specs.Accounts.{with_permissions, bit_left, cleared};
 
@@ -31,7 +31,7 @@ pub const ALL_PERMISSIONS: u8 = 7;
 
 // What a quota was granted at the opening, what remains of it, and its permissions by their bits (rules, section 15).
 #[repr(C)]
-#[derive(Clone, Copy)]
+#[derive(Clone, Copy, PartialEq, Eq)]
 pub struct Quota {
     pub grant: u32,
     pub remainder: u32,
@@ -40,7 +40,7 @@ pub struct Quota {
 
 // A hold record: how often a quota holds the object with a serial (rule 3.4). An unused record is all zero.
 #[repr(C)]
-#[derive(Clone, Copy)]
+#[derive(Clone, Copy, PartialEq, Eq)]
 pub struct Hold {
     pub serial: u32,
     pub quota: u8,
@@ -56,13 +56,6 @@ pub struct Accounts {
     pub holds: [Hold; HOLDS],
     pub kind: u8,
     pub edition: u8,
-}
-
-// The place of a hold record, if there is one.
-#[derive(Clone, Copy)]
-pub enum Place {
-    At(usize),
-    Nothing,
 }
 
 // Bit 0 of the permissions; 0 where bit 0 of the other number is set.
@@ -86,14 +79,24 @@ pub fn cleared(bits: u32, permissions: u8) -> u8
 }
 
 impl Quota {
+    // A quota whose grant is there whole, with all permissions.
+    fn granted(grant: u32) -> Quota
+        ensures { result ≡ granted grant }
+    {
+        Quota {
+            grant: grant,
+            remainder: grant,
+            permissions: ALL_PERMISSIONS,
+        }
+    }
+
     // The quota with other permissions.
     fn with_permissions(self, permissions: u8) -> Quota
         ensures { result ≡ with_permissions permissions self }
     {
         Quota {
-            grant: self.grant,
-            remainder: self.remainder,
-            permissions: permissions,
+            permissions,
+            ..self
         }
     }
 
@@ -105,9 +108,8 @@ impl Quota {
             return self;
         }
         Quota {
-            grant: self.grant,
             remainder: self.remainder - amount,
-            permissions: self.permissions,
+            ..self
         }
     }
 
@@ -119,9 +121,8 @@ impl Quota {
             return self;
         }
         Quota {
-            grant: self.grant,
             remainder: self.remainder + amount,
-            permissions: self.permissions,
+            ..self
         }
     }
 }
@@ -139,16 +140,11 @@ impl Hold {
     }
 
     // Whether the record is used: whether it is not all zero.
+    #[tactic(auto, unfolding(crate::specs::Accounts::used))]
     pub fn is_used(self) -> bool
         ensures { result ≡ used self }
     {
-        if self.serial != 0 {
-            return true;
-        }
-        if self.quota != 0 {
-            return true;
-        }
-        self.count != 0
+        self != Hold::zero()
     }
 
     // The record as it is, or zeros where it is one of this quota.
@@ -188,20 +184,10 @@ impl Accounts {
     fn begin(grants: [u32; QUOTAS]) -> Accounts
         ensures { result ≡ begun grants }
     {
-        let mut accounts = Accounts::zero();
-        let mut quotas = accounts.quotas;
-        let mut i: usize = 0;
-        while i < QUOTAS {
-            let grant = grants[i];
-            quotas[i] = Quota {
-                grant: grant,
-                remainder: grant,
-                permissions: ALL_PERMISSIONS,
-            };
-            i += 1;
+        Accounts {
+            quotas: grants.map(Quota::granted),
+            ..Accounts::zero()
         }
-        accounts.quotas = quotas;
-        accounts
     }
 
     // The accounts at opening: every grant is there whole, and the heap is as it was chosen.
@@ -242,6 +228,7 @@ impl Accounts {
         entry.grant - entry.remainder
     }
 
+    // A charge and a refund differ in what they do to the quota. One method for both would take that as a closure, which has no plainer contract.
     // The quota pays; where there is no such quota, or it has less than that, nothing changes.
     pub fn charge(mut self, quota: u32, amount: u32) -> Accounts
         ensures { result ≡ charge quota amount self }

@@ -69,14 +69,7 @@ impl Accounts {
     pub fn drop_holds(mut self, quota: u8) -> Accounts
         ensures { result ≡ with_holds (drop_records quota self.holds) self }
     {
-        let mut left = self.holds;
-        let mut i: usize = 0;
-        while i < HOLDS {
-            let hold = self.holds[i];
-            left[i] = hold.dropped(quota);
-            i += 1;
-        }
-        self.holds = left;
+        self.holds = self.holds.map(|hold| hold.dropped(quota));
         self
     }
 }

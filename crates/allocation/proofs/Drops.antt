@@ -1,4 +1,5 @@
 -- The three ends of a release: one hold of several, the last one of a quota, and the last one of all.
+use Rattle.std.specs.Prelude.{Ok}
 use Prim.Native.Nat.{ℕ, ◌+◌, ◌-◌, ◌≤◌, ◌<◌}
 use mathlib.Core.Path.{◌≡◌, ap, sym, ◌∙◌}
 use mathlib.Core.List.{List}
@@ -6,14 +7,13 @@ use mathlib.Core.Bool.{Bool, true, false}
 use lib.ListN.{length}
 use Rattle.accounts.specs.declared.Accounts.{Accounts}
 use Rattle.accounts.specs.declared.Hold.{Hold}
-use Rattle.accounts.specs.Accounts.{is_for, find_hold, hold_at, put_hold, drop_hold, refund}
-use Rattle.accounts.proofs.Laws.{found_first, refund_kept}
+use Rattle.accounts.specs.Accounts.{hold_at, put_hold, drop_hold, refund}
+use Rattle.accounts.proofs.Laws.{refund_kept}
 use Rattle.layout.specs.Bytes.{Octets}
 use Rattle.lookup.specs.declared.Met.{Met}
 use Rattle.lookup.specs.Walk.{object_met}
 use Rattle.model.specs.Consistent.{held}
 use Rattle.model.specs.Holds.{with_count}
-use Rattle.model.specs.declared.AmountAnswer.TheVariants.{Amount}
 use Rattle.writer.specs.Freeing.{Inside, vacate_in}
 use Rattle.writer.proofs.Guards.{inside_test, vacates}
 use Rattle.results.specs.declared.AmountResult.{AmountResult}
@@ -32,18 +32,14 @@ module _ (s : List ℕ) (k : Accounts) (o : Octets s) (q : ℕ) (m : Met) (i : �
       let h = y.holding in
       inside s k o h.checked.accounted h.handle m h.named (allowed_long (length s) h.checked.extent).1
 
-  pub drop_place : i < length k.holds
-  unfolding find_hold
-  drop_place = (found_first (is_for m.serial q) k.holds i y.holding.place).within
-
   pub few_dropped : 1 < (hold_at i k).count → (k' : Accounts) → k' ≡ put_hold i (with_count ((hold_at i k).count - 1) (hold_at i k)) k → (r : AmountResult)
-      → r ≡ record { accounts = k'; answer = Amount 0 } → amount_outcome s r ≡ claim_dropped s k q (object_met m)
+      → r ≡ record { accounts = k'; answer = Ok 0 } → amount_outcome s r ≡ claim_dropped s k q (object_met m)
   few_dropped l k' ke r re =
       let h = y.holding in
       gives s k' 0 r re ∙ (rw ke (fewer_claims s k o h.checked.accounted h.handle m h.named q i h.place l))
 
   module _ (l : (hold_at i k).count ≤ 1) (k₁ k₂ : Accounts) (e₁ : k₁ ≡ refund q (m.size - 8 + 8) k) (e₂ : k₂ ≡ drop_hold i k₁)
-      (r : AmountResult) (re : r ≡ record { accounts = k₂; answer = Amount (m.size - 8 + 8) }) where
+      (r : AmountResult) (re : r ≡ record { accounts = k₂; answer = Ok (m.size - 8 + 8) }) where
     left : k₂ ≡ drop_hold i (refund q (m.size - 8 + 8) k)
     left = e₂ ∙ ap (drop_hold i) e₁
 

@@ -1,56 +1,50 @@
 -- The lines of allocate one after the other, each with the outcome where it refuses, and the outcome where none does.
 -- A search that finds an unused record says that not all are used. The change of the first unused record is a change at its place, and paying
 -- changes no record.
+use Rattle.std.specs.Prelude.{Option, Some, None, Ok, Err}
 use mathlib.Core.Path.{◌≡◌, ap, sym, ◌∙◌}
-use Prim.Native.Nat.{ℕ, ◌+◌, ◌/◌, ◌%◌, ◌≤◌, ◌<◌}
+use Prim.Native.Nat.{ℕ, ◌+◌, ◌≤◌, ◌<◌}
 use native.Mathlib.Omega.{arith}
 use mathlib.Core.List.{List, [], ◌∷◌}
-use mathlib.Core.Bool.{true, not}
-use mathlib.Core.Option.{Option}
+use mathlib.Core.Bool.{not}
 use lib.ListN.{set}
 use lib.Dec.{eqb, ltb}
 use borrow.Author.Tests.{eq-eqb, ne_eqb, lt-ltb, le-ltb}
 use Rattle.accounts.specs.declared.Hold.{Hold}
 use Rattle.accounts.specs.declared.Accounts.{Accounts}
-use Rattle.accounts.specs.declared.Place.TheVariants.{At, Nothing}
-use Rattle.accounts.specs.Accounts.{QUOTAS, ALLOCATE, quota_at, permits, used, unused, remaining, charge, with_holds, with_last_serial, put_hold, lowest_unused}
+use Rattle.accounts.specs.Accounts.{used, unused, remaining, charge, with_holds, with_last_serial, put_hold, lowest_unused}
 use Rattle.accounts.proofs.Laws.{charge_kept, charge_last}
 use Rattle.layout.specs.Bytes.{Octets}
-use Rattle.model.specs.Answers.{refusal_number, given, verdict_values, handle_values}
+use Rattle.model.specs.Answers.{refusal_number, given, handle_values}
 use Rattle.lists.specs.Lists.{all, is_none, or_else}
 use Rattle.model.specs.Consistent.{charge_of, greatest_serial}
 use Rattle.model.specs.Holds.{take_record}
-use Rattle.model.specs.Refusals.{Line, first_refusal, line_3, line_4, line_8, line_9, line_10, line_11, line_12, base_for, allocate_lines, row_lines}
-use Rattle.model.specs.Calls.{unless, check, leaves, state_of, allocated, new_object, allocate}
+use Rattle.model.specs.Refusals.{Line, first_refusal, line_8, line_9, line_10, line_11, base_for, allocate_lines, row_lines}
+use Rattle.model.specs.Calls.{unless, leaves, state_of, allocated, new_object, allocate}
 use Rattle.model.specs.declared.Handle.{Handle}
 use Rattle.model.specs.declared.Refusal.{Refusal}
-use Rattle.model.specs.declared.Refusal.TheVariants.{QuotaNumber, ObjectLength, QuotaExceeded, HoldsExhausted, SerialsExhausted, NoSpace, NotPermitted}
-use Rattle.model.specs.declared.Verdict.{Verdict}
-use Rattle.model.specs.declared.Verdict.TheVariants.{Accepted, Refused}
-use Rattle.model.specs.declared.HandleAnswer.TheVariants.{Given, Refused as NotGiven}
+use Rattle.model.specs.declared.Refusal.TheVariants.{QuotaExceeded, HoldsExhausted, SerialsExhausted, NoSpace}
 use Rattle.writer.specs.Writes.{carve_bytes}
 use Rattle.writer.proofs.Guards.{room_test, carves}
 use Rattle.rounding.specs.Rounding.{Units, object_length, alignment}
 use Rattle.lookup.specs.declared.Met.{Met}
-use Rattle.lookup.specs.declared.Fit.TheVariants.{At as Fits, Nowhere}
 use Rattle.lookup.specs.Walk.{find_fit}
 use Rattle.results.specs.declared.HandleResult.{HandleResult}
 use Rattle.results.specs.Results.{outcome}
 use Rattle.results.specs.Results.{handle_outcome}
 use Rattle.writer.specs.Carving.{carve_in}
-use Rattle.allocation.specs.Ready.{Checked, Ready}
-use Rattle.results.proofs.Lines.{check_refuses, check_accepts, refused_is, accepted_is, line_refuses, line_passes, line_3_refuses, line_12_refuses}
-use Rattle.results.proofs.Lines.{line_12_passes}
+use Rattle.allocation.specs.Ready.{Ready}
+use Rattle.results.proofs.Lines.{refused_is, accepted_is, line_refuses, line_passes}
 use Rattle.results.proofs.Records.{found_some, found_change, nothing_some}
 use Rattle.holding.proofs.Claims.{all_used}
-use Rattle.allocation.proofs.Ready.{checked_passes, ready_passes}
+use Rattle.allocation.proofs.Ready.{ready_passes}
 use Rattle.allocation.proofs.Placed.{no_base, the_base, the_room, the_bytes}
 
 -- the accounts after a new object, by the place of the record, and by the definition
 abbrev pub booked_at : ℕ → ℕ → ℕ → ℕ → Accounts → Accounts
 booked_at q n place serial k = charge q (n + 8) (put_hold place (record { serial = serial; quota = q; count = 1 }) (with_last_serial serial k))
 
-pub booked_is : (q n place serial : ℕ) (k : Accounts) → lowest_unused k ≡ At place
+pub booked_is : (q n place serial : ℕ) (k : Accounts) → lowest_unused k ≡ Some place
     → booked_at q n place serial k ≡ with_last_serial serial (with_holds (take_record serial q k.holds) (charge q (charge_of n) k))
 unfolding put_hold lowest_unused take_record
 booked_is q n place serial k e =
@@ -63,7 +57,7 @@ booked_is q n place serial k e =
 abbrev pub result_of : ℕ → ℕ → ℕ → ℕ → Accounts → HandleResult
 result_of q n place b k = record {
   accounts = booked_at q n place (k.last_serial + 1) k;
-  answer = Given (record { base = b; length = n; serial = k.last_serial + 1 });
+  answer = Ok (record { base = b; length = n; serial = k.last_serial + 1 });
 }
 
 -- the new object, by its base
@@ -83,48 +77,16 @@ module _ (unit : ℕ → ℕ) (s : List ℕ) (k : Accounts) (q n : ℕ) where
   abbrev pub from_8 : List Line
   from_8 = line_8 k q (object_length unit n) ∷ from_9
 
-  abbrev pub from_4 : List Line
-  from_4 = line_4 n ∷ from_8
-
-  abbrev pub from_12 : List Line
-  from_12 = line_12 ALLOCATE k q ∷ from_4
-
-  abbrev pub from_3 : List Line
-  from_3 = line_3 q ∷ from_12
-
   abbrev pub number : ℕ
   number = first_refusal (allocate_lines unit s k q n)
 
   -- a refused call's outcome
-  refused_by : (r : HandleResult) (f : Refusal) → r ≡ record { accounts = k; answer = NotGiven f } → number ≡ refusal_number f
+  pub refused_by : (r : HandleResult) (f : Refusal) → r ≡ record { accounts = k; answer = Err f } → number ≡ refusal_number f
       → handle_outcome s r ≡ allocate unit s k q n
   unfolding allocate handle_values
   refused_by r f e g =
       ap (handle_outcome s) e
       ∙ refused_is number s k (leaves (allocated q (new_object unit s k n) (state_of s k)) (given (new_object unit s k n))) f g
-
-  -- the first five lines
-  pub refused_check : (v : Verdict) → verdict_values v ≡ (check unit s k).values → (f : Refusal) → v ≡ Refused f → (r : HandleResult)
-      → r ≡ record { accounts = k; answer = NotGiven f }
-      → handle_outcome s r ≡ allocate unit s k q n
-  unfolding row_lines
-  refused_check v told f a r e = refused_by r f e (check_refuses unit s k v told from_3 f a)
-
-  pub refused_3 : (v : Verdict) → verdict_values v ≡ (check unit s k).values → v ≡ Accepted → QUOTAS ≤ q → (r : HandleResult)
-      → r ≡ record { accounts = k; answer = NotGiven QuotaNumber }
-      → handle_outcome s r ≡ allocate unit s k q n
-  unfolding row_lines
-  refused_3 v told a h r e = refused_by r QuotaNumber e (check_accepts unit s k v told from_3 a ∙ line_3_refuses q from_12 h)
-
-  pub refused_12 : Checked unit s k q → (quota_at q k).permissions / ALLOCATE % 2 ≡ 0
-      → (r : HandleResult) → r ≡ record { accounts = k; answer = NotGiven NotPermitted } → handle_outcome s r ≡ allocate unit s k q n
-  unfolding row_lines
-  refused_12 c z r e = refused_by r NotPermitted e (checked_passes unit s k q from_12 c ∙ line_12_refuses ALLOCATE q k from_4 z)
-
-  pub refused_4 : Checked unit s k q → permits ALLOCATE q k ≡ true → first_refusal from_4 ≡ 4
-      → (r : HandleResult) → r ≡ record { accounts = k; answer = NotGiven ObjectLength } → handle_outcome s r ≡ allocate unit s k q n
-  unfolding row_lines
-  refused_4 c p h r e = refused_by r ObjectLength e (checked_passes unit s k q from_12 c ∙ line_12_passes ALLOCATE q k from_4 p ∙ h)
 
 -- the others, of a request that is ready
 module _ (unit : ℕ → ℕ) (units : Units unit) (s : List ℕ) (k : Accounts) (q n : ℕ) (y : Ready unit s k q n) (r : HandleResult) where
@@ -132,7 +94,7 @@ module _ (unit : ℕ → ℕ) (units : Units unit) (s : List ℕ) (k : Accounts)
   unfolding row_lines
   to_8 = ready_passes unit s k q n (from_8 unit s k q n) y
 
-  pub refused_8 : remaining q k < object_length unit n + 8 → r ≡ record { accounts = k; answer = NotGiven QuotaExceeded }
+  pub refused_8 : remaining q k < object_length unit n + 8 → r ≡ record { accounts = k; answer = Err QuotaExceeded }
       → handle_outcome s r ≡ allocate unit s k q n
   unfolding line_8
   refused_8 h e =
@@ -144,18 +106,18 @@ module _ (unit : ℕ → ℕ) (units : Units unit) (s : List ℕ) (k : Accounts)
     unfolding line_8
     to_9 = to_8 ∙ line_passes 8 (ltb (remaining q k) (object_length unit n + 8)) (from_9 unit s k q n) (le-ltb (remaining q k) (object_length unit n + 8) h8)
 
-    pub refused_9 : lowest_unused k ≡ Nothing → r ≡ record { accounts = k; answer = NotGiven HoldsExhausted } → handle_outcome s r ≡ allocate unit s k q n
+    pub refused_9 : lowest_unused k ≡ None → r ≡ record { accounts = k; answer = Err HoldsExhausted } → handle_outcome s r ≡ allocate unit s k q n
     unfolding line_9 lowest_unused
     refused_9 h e =
         refused_by unit s k q n r HoldsExhausted e
         (to_9 ∙ line_refuses 9 (all used k.holds) (from_10 unit s k q n) (all_used k.holds ∙ ap not (nothing_some unused k.holds 0 h)))
 
-    module _ (place : ℕ) (h9 : lowest_unused k ≡ At place) where
+    module _ (place : ℕ) (h9 : lowest_unused k ≡ Some place) where
       to_10 : number unit s k q n ≡ first_refusal (from_10 unit s k q n)
       unfolding line_9 lowest_unused
       to_10 = to_9 ∙ line_passes 9 (all used k.holds) (from_10 unit s k q n) (all_used k.holds ∙ ap not (found_some unused k.holds place h9))
 
-      pub refused_10 : k.last_serial ≡ greatest_serial → r ≡ record { accounts = k; answer = NotGiven SerialsExhausted }
+      pub refused_10 : k.last_serial ≡ greatest_serial → r ≡ record { accounts = k; answer = Err SerialsExhausted }
           → handle_outcome s r ≡ allocate unit s k q n
       unfolding line_10
       refused_10 h e =
@@ -169,14 +131,14 @@ module _ (unit : ℕ → ℕ) (units : Units unit) (s : List ℕ) (k : Accounts)
             to_10 ∙ line_passes 10 (eqb k.last_serial greatest_serial) (from_11 unit s k q n)
             (ne_eqb k.last_serial greatest_serial (λ e. omega arith))
 
-        pub refused_11 : find_fit (alignment unit n) (object_length unit n) s ≡ Nowhere → r ≡ record { accounts = k; answer = NotGiven NoSpace }
+        pub refused_11 : find_fit (alignment unit n) (object_length unit n) s ≡ None → r ≡ record { accounts = k; answer = Err NoSpace }
             → handle_outcome s r ≡ allocate unit s k q n
         unfolding line_11 is_none
         refused_11 h e =
             refused_by unit s k q n r NoSpace e
             (to_11 ∙ line_refuses 11 (is_none (base_for unit s n)) [] (rw (no_base unit units s k n y.checked.accounted h)))
 
-        module _ (m : Met) (b : ℕ) (fit : find_fit (alignment unit n) (object_length unit n) s ≡ Fits m b) where
+        module _ (m : Met) (b : ℕ) (fit : find_fit (alignment unit n) (object_length unit n) s ≡ Some (m, b)) where
           to_end : number unit s k q n ≡ 0
           unfolding line_11 is_none first_refusal
           to_end = to_11 ∙ line_passes 11 (is_none (base_for unit s n)) [] (rw (the_base unit units s k n y.checked.accounted m b fit))

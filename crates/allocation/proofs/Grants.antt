@@ -1,5 +1,7 @@
 -- What allocate asks the survey for, and where what it found leads: each way to the end of a grant is the definition's, of every request that is rounded to
 -- the object's size and aligned by its unit.
+use Rattle.std.specs.Prelude.{Option, Some, None, Result, Ok, Err}
+use Rattle.model.specs.declared.Refusal.{Refusal}
 use Prim.Native.Nat.{ℕ, ◌+◌, ◌≤◌, ◌<◌}
 use mathlib.Core.Path.{◌≡◌, ap, sym, subst, ◌∙◌}
 use mathlib.Core.List.{List}
@@ -12,29 +14,27 @@ use Rattle.rounding.proofs.Editions.{table_is, within_heap}
 use Rattle.rounding.proofs.ByZeros.{zeros_alignment}
 use Rattle.accounts.specs.declared.Accounts.{Accounts}
 use Rattle.accounts.specs.declared.Hold.{Hold}
-use Rattle.accounts.specs.declared.Place.TheVariants.{At, Nothing}
 use Rattle.accounts.specs.Accounts.{zero_hold, used, unused, lowest_unused, put_hold, with_last_serial, remaining}
 use Rattle.accounts.proofs.Laws.{found_first, charge_kept}
 use Rattle.layout.specs.Bytes.{Octets}
 use Rattle.lookup.specs.declared.Met.{Met}
-use Rattle.lookup.specs.declared.Fit.TheVariants.{At as Fits, Nowhere}
-use Rattle.lookup.specs.Walk.{fitted, find_fit}
+use Rattle.lookup.specs.Walk.{find_fit}
 use Rattle.lists.specs.Lists.{any}
 use Rattle.model.specs.Consistent.{is_of, greatest_serial}
-use Rattle.model.specs.Refusals.{greatest_length}
-use Rattle.model.specs.Calls.{allocate}
+use Rattle.model.specs.Answers.{verdict_values}
+use Rattle.model.specs.Calls.{check, allocate}
 use Rattle.model.specs.declared.Handle.{Handle}
 use Rattle.model.specs.declared.Refusal.TheVariants.{QuotaExceeded, HoldsExhausted, SerialsExhausted, NoSpace}
-use Rattle.model.specs.declared.HandleAnswer.TheVariants.{Refused as NotGiven}
 use Rattle.results.specs.declared.HandleResult.{HandleResult}
 use Rattle.results.specs.Results.{handle_outcome}
 use Rattle.writer.specs.Carving.{Room, carve_in}
-use Rattle.survey.specs.Survey.{place_of, fit_place, shares}
+use Rattle.survey.specs.Survey.{shares, verdict_in}
+use Rattle.survey.specs.declared.Known.{Known}
 use Rattle.survey.specs.declared.Wanted.{Wanted}
 use Rattle.allocation.specs.Ready.{Ready}
-use Rattle.allocation.specs.Asked.{Rounded, Asks, Requested, Grantable}
+use Rattle.allocation.specs.Asked.{Rounded, Asks, Admitted, Requested, Grantable}
 use Rattle.allocation.proofs.Placed.{the_room}
-use Rattle.allocation.proofs.Ready.{checked_serial}
+use Rattle.allocation.proofs.Ready.{checked_is, checked_serial}
 use Rattle.allocation.proofs.Granted.{booked_at, result_of, refused_8, refused_9, refused_10, refused_11, granted}
 use Rattle.allocation.proofs.Released.{any_set, other_of}
 
@@ -48,7 +48,7 @@ unfolding is_of
 unused_of x h b = rw b
 
 -- a record with a new serial takes an unused place
-pub shares_kept : (t q n place serial : ℕ) (k r : Accounts) → lowest_unused k ≡ At place → (t ≡ serial → ⊥) → r ≡ booked_at q n place serial k
+pub shares_kept : (t q n place serial : ℕ) (k r : Accounts) → lowest_unused k ≡ Some place → (t ≡ serial → ⊥) → r ≡ booked_at q n place serial k
     → any (shares t q) r.holds ≡ any (shares t q) k.holds
 unfolding shares put_hold lowest_unused unused
 shares_kept t q n place serial k r e d re =
@@ -70,19 +70,24 @@ module _ {s : List ℕ} {k : Accounts} {q z u : ℕ} (y : Requested s k q z u) w
   pub size_small : z ≤ 32768
   size_small = omega (arith, y.rounded.size, within_heap k.edition y.asked y.rounded.short)
 
--- what the survey was asked for, of a request that passes line 4
-pub rounded_by : (k : Accounts) (q n : ℕ) (h : Handle) (w : Wanted) → (n ≡ 0 → ⊥) → n ≤ greatest_length → (edition : ℕ) → edition ≡ k.edition
-    → Asks edition q h n w → Rounded k.edition n w.need w.unit
-rounded_by k q n h w z l edition e a = subst (λ (x : ℕ). Rounded x n w.need w.unit) e (a.rounded (omega (arith, z)) l)
+-- the first lines of a request have admitted it, and the survey was asked for its size and unit
+pub requested_by : (s : List ℕ) (k : Accounts) (q n : ℕ) (h : Handle) (w : Wanted) (v a : Result Known Refusal)
+    → verdict_values (verdict_in v) ≡ (check (table k.edition) s k).values
+    → Admitted k v q n a → (x : Known) → a ≡ Ok x → (edition : ℕ) → edition ≡ k.edition → Asks edition q h n w
+    → Rounded k.edition n w.need w.unit × Requested s k q w.need w.unit
+requested_by s k q n h w v a told d x ok edition e y =
+    let p = d.accepts x ok in
+    let r = subst (λ (x : ℕ). Rounded x n w.need w.unit) e (y.rounded p.3 p.4) in
+    (r, record { checked = checked_is (table k.edition) s k (verdict_in v) told (ap verdict_in p.0) q p.1; permitted = p.2; asked = n; rounded = r })
 
-module _ {s : List ℕ} {k : Accounts} {q z u low fit : ℕ} (y : Grantable s k q z u low fit) where
+module _ {s : List ℕ} {k : Accounts} {q z u : ℕ} {low : Option ℕ} {fit : Option (Met × ℕ)} (y : Grantable s k q z u low fit) where
   -- the room is that for any such request
   room_for : {n : ℕ} → Rounded k.edition n z u
-      → fitted u (fit_place fit s) ≡ find_fit (alignment (table k.edition) n) (object_length (table k.edition) n) s
+      → fit ≡ find_fit (alignment (table k.edition) n) (object_length (table k.edition) n) s
   room_for d = y.room ∙ (λ i. find_fit (d.unit i) (d.size i) s)
 
   -- the object lies in the block that was found
-  pub room_there : (m : Met) (b : ℕ) → fitted u (fit_place fit s) ≡ Fits m b → Room m b z
+  pub room_there : (m : Met) (b : ℕ) → fit ≡ Some (m, b) → Room m b z
   room_there m b e =
       let d = y.requested.rounded in
       let c = y.requested.checked in
@@ -100,29 +105,29 @@ module _ {s : List ℕ} {k : Accounts} {q z u low fit : ℕ} (y : Grantable s k 
     ready : Ready (table k.edition) s k q n
     ready = ready_for y.requested d
 
-    pub exceeds : remaining q k < z + 8 → r ≡ record { accounts = k; answer = NotGiven QuotaExceeded } → handle_outcome s r ≡ allocate t s k q n
+    pub exceeds : remaining q k < z + 8 → r ≡ record { accounts = k; answer = Err QuotaExceeded } → handle_outcome s r ≡ allocate t s k q n
     exceeds h e = refused_8 t i s k q n ready r (omega (arith, h, d.size)) e
 
     module _ (h8 : z + 8 ≤ remaining q k) where
       paid : object_length t n + 8 ≤ remaining q k
       paid = omega (arith, h8, d.size)
 
-      pub unrecorded : place_of low ≡ Nothing → r ≡ record { accounts = k; answer = NotGiven HoldsExhausted } → handle_outcome s r ≡ allocate t s k q n
+      pub unrecorded : low ≡ None → r ≡ record { accounts = k; answer = Err HoldsExhausted } → handle_outcome s r ≡ allocate t s k q n
       unrecorded h e = refused_9 t i s k q n ready r paid (sym y.lowest ∙ h) e
 
-      module _ (place : ℕ) (h9 : place_of low ≡ At place) where
-        recorded : lowest_unused k ≡ At place
+      module _ (place : ℕ) (h9 : low ≡ Some place) where
+        recorded : lowest_unused k ≡ Some place
         recorded = sym y.lowest ∙ h9
 
-        pub unnumbered : greatest_serial ≤ k.last_serial → r ≡ record { accounts = k; answer = NotGiven SerialsExhausted }
+        pub unnumbered : greatest_serial ≤ k.last_serial → r ≡ record { accounts = k; answer = Err SerialsExhausted }
             → handle_outcome s r ≡ allocate t s k q n
         unnumbered h e =
             refused_10 t i s k q n ready r paid place recorded (omega (arith, h, checked_serial t s k q y.requested.checked)) e
 
         module _ (h10 : k.last_serial < greatest_serial) where
-          pub unplaced : fitted u (fit_place fit s) ≡ Nowhere → r ≡ record { accounts = k; answer = NotGiven NoSpace } → handle_outcome s r ≡ allocate t s k q n
+          pub unplaced : fit ≡ None → r ≡ record { accounts = k; answer = Err NoSpace } → handle_outcome s r ≡ allocate t s k q n
           unplaced h e = refused_11 t i s k q n ready r paid place recorded h10 (sym (room_for d) ∙ h) e
 
-          pub made : Octets s → (m : Met) (b : ℕ) → fitted u (fit_place fit s) ≡ Fits m b → (s' : List ℕ) → s' ≡ carve_in m b z (k.last_serial + 1) s
+          pub made : Octets s → (m : Met) (b : ℕ) → fit ≡ Some (m, b) → (s' : List ℕ) → s' ≡ carve_in m b z (k.last_serial + 1) s
               → r ≡ result_of q z place b k → handle_outcome s' r ≡ allocate t s k q n
           made o m b f s' w e = granted t i s k q n ready r paid place recorded h10 m b (sym (room_for d) ∙ f) o s' z d.size w e

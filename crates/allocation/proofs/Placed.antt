@@ -1,12 +1,12 @@
 -- A new object at the base that the walk found: the writes for it make the bytes of the definition's blocks, and they lie in the block that was met.
 -- Every block in front of that one ends before the object, so the definition cuts that block too.
+use Rattle.std.specs.Prelude.{Some, None}
 use mathlib.Core.Path.{◌≡◌, refl, ap, sym, ◌∙◌}
 use Prim.Native.Nat.{ℕ, ◌+◌, ◌%◌, ◌≤◌}
 use native.Mathlib.Nat.{add-zero}
 use native.Mathlib.Omega.{arith}
 use mathlib.Core.List.{List, [], ◌∷◌, ◌++◌}
 use mathlib.Core.Bool.{true, false, not}
-use mathlib.Core.Option.{none, some}
 use lib.ListN.{length}
 use lib.Dec.{leb}
 use borrow.Author.Tests.{le-leb, lt-leb}
@@ -30,7 +30,6 @@ use Rattle.rounding.specs.Rounding.{Units, object_length, alignment}
 use Rattle.rounding.proofs.Rounding.{rounded, alignment_positive, alignment_eights}
 use Rattle.invariant.proofs.Requested.{eights}
 use Rattle.lookup.specs.declared.Met.{Met}
-use Rattle.lookup.specs.declared.Fit.TheVariants.{At, Nowhere}
 use Rattle.lookup.specs.Walk.{find_fit}
 use Rattle.lookup.proofs.Parsed.{total_parsed}
 use Rattle.lookup.proofs.Lowest.{Fitting, base_found, base_nowhere}
@@ -61,20 +60,20 @@ free_blocks_apart s k e = and_right (all long_enough (blocks_of s)) (free_apart 
 
 module _ (unit : ℕ → ℕ) (units : Units unit) (s : List ℕ) (k : Accounts) (n : ℕ) (ok : accounted s k ≡ true) where
   -- where the walk finds no base, there is none
-  pub no_base : find_fit (alignment unit n) (object_length unit n) s ≡ Nowhere → base_for unit s n ≡ none
+  pub no_base : find_fit (alignment unit n) (object_length unit n) s ≡ None → base_for unit s n ≡ None
   unfolding base_for
   no_base e =
       base_nowhere (alignment unit n) (object_length unit n) (alignment_positive unit units n) s (blocks_of s) (accounted_cut s k ok).0
       (free_blocks_apart s k ok) e
 
-  module _ (m : Met) (b : ℕ) (fit : find_fit (alignment unit n) (object_length unit n) s ≡ At m b) where
+  module _ (m : Met) (b : ℕ) (fit : find_fit (alignment unit n) (object_length unit n) s ≡ Some (m, b)) where
     fitting : Fitting (alignment unit n) (object_length unit n) s (blocks_of s) m b
     fitting =
         base_found (alignment unit n) (object_length unit n) (alignment_positive unit units n) s (blocks_of s) (accounted_cut s k ok).0
         (free_blocks_apart s k ok) m b fit
 
     -- the base that it finds is the definition's
-    pub the_base : base_for unit s n ≡ some b
+    pub the_base : base_for unit s n ≡ Some b
     unfolding base_for
     the_base = fitting.lowest
 

@@ -1,4 +1,6 @@
 -- The lines that a checked or ready request has passed: none of the first three, or five, holds of it, so the others decide.
+use Rattle.std.specs.Prelude.{Result, Ok}
+use Rattle.model.specs.declared.Refusal.{Refusal}
 use Prim.Native.Nat.{ℕ, ◌<◌}
 use native.Mathlib.Omega.{arith}
 use mathlib.Core.Path.{◌≡◌, ◌∙◌}
@@ -14,15 +16,14 @@ use Rattle.model.specs.Answers.{verdict_values}
 use Rattle.model.specs.Consistent.{allowed, consistent}
 use Rattle.model.specs.Refusals.{Line, first_refusal, line_1, line_2, line_3, line_4, line_12, greatest_length, row_lines}
 use Rattle.model.specs.Calls.{unless, check}
-use Rattle.model.specs.declared.Verdict.{Verdict}
-use Rattle.model.specs.declared.Verdict.TheVariants.{Accepted}
 use Rattle.lists.proofs.Bools.{or_right}
 use Rattle.results.proofs.Lines.{line_refuses, line_passes, line_3_passes, line_12_passes, check_accounted}
 use Rattle.model.proofs.Consistent.{consistent_range, range_serial}
 use Rattle.allocation.specs.Ready.{Checked, Ready}
 
 -- lines 1 to 3 do not hold of a quota that exists, where the check accepts
-pub checked_is : (unit : ℕ → ℕ) (s : List ℕ) (k : Accounts) (v : Verdict) → verdict_values v ≡ (check unit s k).values → v ≡ Accepted → (q : ℕ) → q < QUOTAS
+pub checked_is : (unit : ℕ → ℕ) (s : List ℕ) (k : Accounts) (v : Result (Unit {0}) Refusal) → verdict_values v ≡ (check unit s k).values
+    → v ≡ Ok tt → (q : ℕ) → q < QUOTAS
     → Checked unit s k q
 checked_is unit s k v told e q l = let p = check_accounted unit s k v told e in record { extent = p.0; accounted = p.1; consistent = p.2; exists = l }
 
@@ -39,7 +40,7 @@ pub checked_serial : (unit : ℕ → ℕ) (s : List ℕ) (k : Accounts) (q : ℕ
 checked_serial unit s k q c = range_serial k (consistent_range unit s k c.consistent)
 
 -- the check accepts it
-pub accepted_check : (unit : ℕ → ℕ) (s : List ℕ) (k : Accounts) (q : ℕ) → Checked unit s k q → verdict_values Accepted ≡ (check unit s k).values
+pub accepted_check : (unit : ℕ → ℕ) (s : List ℕ) (k : Accounts) (q : ℕ) → Checked unit s k q → verdict_values (Ok tt) ≡ (check unit s k).values
 unfolding verdict_values check row_lines unless line_1 line_2 first_refusal
 accepted_check unit s k q c = rw (c.extent, c.consistent)
 

@@ -1,14 +1,13 @@
 -- Reallocate is allocate, a copy and a release: behind lines 5 and 6 its lines are allocate's, so what allocate refuses it refuses; and where allocate
 -- grants an object, the heap with the old object's bytes copied is that of a good state. There the old handle still names its object, and the
 -- quota still has its record, so that release is accepted and gives what the definition says.
+use Rattle.std.specs.Prelude.{Some, Result, Ok, Err}
 use Prim.Native.Nat.{ℕ, suc, min}
 use mathlib.Core.Path.{◌≡◌, refl, ap, sym, ◌∙◌}
 use mathlib.Core.List.{List, [], ◌∷◌, Memᴰ}
 use mathlib.Core.Bool.{Bool, true, false, not, false≢true}
-use mathlib.Core.Option.{some}
 use Rattle.accounts.specs.declared.Accounts.{Accounts}
 use Rattle.accounts.specs.declared.Hold.{Hold}
-use Rattle.accounts.specs.declared.Place.TheVariants.{At}
 use Rattle.accounts.specs.Accounts.{permissible, permissions, used, unused, is_for, first_from, find_hold}
 use Rattle.accounts.proofs.Laws.{for_another}
 use Rattle.rounding.specs.Rounding.{Units}
@@ -26,8 +25,6 @@ use Rattle.model.specs.Calls.{Outcome, State, unless, leaves, state_of, allocate
 use Rattle.model.specs.Step.{step}
 use Rattle.model.specs.declared.Handle.{Handle}
 use Rattle.model.specs.declared.Refusal.{Refusal}
-use Rattle.model.specs.declared.HandleAnswer.{HandleAnswer}
-use Rattle.model.specs.declared.HandleAnswer.TheVariants.{Given, Refused}
 use Rattle.model.specs.declared.Call.TheVariants.{Allocate}
 use Rattle.lists.proofs.Bools.{fails, and_both}
 use Rattle.model.proofs.Consistent.{consistent_fits, consistent_permissible, consistent_kinds, consistent_range}
@@ -78,7 +75,7 @@ unfolding step
 given_edition unit s k q n t x e = ap (λ (y : Outcome). y.accounts.edition) e ∙ (step_keeps unit (Allocate q n) s k).same_edition
 
 -- a handle that is the whole of an object that it names names it to reallocate too
-pub whole_named : (h old : Handle) (s : List ℕ) → h ≡ old → lookup h s ≡ some old → (lookup_whole h s ≡ some old) × (found (lookup_whole h s) ≡ old)
+pub whole_named : (h old : Handle) (s : List ℕ) → h ≡ old → lookup h s ≡ Some old → (lookup_whole h s ≡ Some old) × (found (lookup_whole h s) ≡ old)
 unfolding found or_else
 whole_named h old s is e =
     let w = (lookup_whole_exactly h s old).1 (is, rw is (lookup_named h s old e).1) in
@@ -91,7 +88,7 @@ unfolding line_6
 line_6_passes k q o rest e = line_passes 6 (not (has_record k.holds q o.serial)) rest (rw e)
 
 -- what a release of an object that is named and held leaves
-module _ (unit : ℕ → ℕ) (s : List ℕ) (k : Accounts) (q : ℕ) (h old : Handle) (c : Checked unit s k q) (named : lookup h s ≡ some old)
+module _ (unit : ℕ → ℕ) (s : List ℕ) (k : Accounts) (q : ℕ) (h old : Handle) (c : Checked unit s k q) (named : lookup h s ≡ Some old)
     (held : has_record k.holds q old.serial ≡ true) where
   release_passes : first_refusal (release_lines unit s k q h) ≡ 0
   unfolding row_lines first_refusal found or_else
@@ -107,7 +104,7 @@ module _ (unit : ℕ → ℕ) (s : List ℕ) (k : Accounts) (q : ℕ) (h old : H
 
 -- a request that passes lines 1 to 6: h names the object old, and the quota has a record for it
 module _ (unit : ℕ → ℕ) (units : Units unit) (s : List ℕ) (k : Accounts) (q : ℕ) (h : Handle) (n : ℕ) (r : Ready unit s k q n) (old : Handle)
-    (handle-is : h ≡ old) (named : lookup h s ≡ some old) (held : has_record k.holds q old.serial ≡ true) where
+    (handle-is : h ≡ old) (named : lookup h s ≡ Some old) (held : has_record k.holds q old.serial ≡ true) where
   -- the lines behind them are allocate's
   same_number : first_refusal (reallocate_lines unit s k q h n) ≡ first_refusal (allocate_lines unit s k q n)
   unfolding row_lines
@@ -126,12 +123,13 @@ module _ (unit : ℕ → ℕ) (units : Units unit) (s : List ℕ) (k : Accounts)
   number_is t x e = sym (refusal_of_lines (by_lines unit (Allocate q n) s k)) ∙ sym (ap (λ (y : Outcome). y.values.refusal) e)
 
   -- what it refuses is refused
-  pub refused_too : (t : List ℕ) (x : HandleResult) (f : Refusal) → x.answer ≡ Refused f → handle_outcome t x ≡ allocate unit s k q n
+  pub refused_too : (t : List ℕ) (x : HandleResult) (f : Refusal) → x.answer ≡ Err f → handle_outcome t x ≡ allocate unit s k q n
       → handle_outcome t x ≡ reallocate unit s k q h n
   unfolding allocate reallocate handle_values
   refused_too t x f a e =
       let m = number_some f in
-      let number : first_refusal (allocate_lines unit s k q n) ≡ suc m.0 = number_is t x e ∙ ap (λ (y : HandleAnswer). (handle_values y).refusal) a ∙ m.1 in
+      let number : first_refusal (allocate_lines unit s k q n) ≡ suc m.0 = number_is t x e
+      ∙ ap (λ (y : Result Handle Refusal). (handle_values y).refusal) a ∙ m.1 in
       e ∙ unless_refused _ m.0 s k _ number ∙ sym (unless_refused _ m.0 s k _ (same_number ∙ number))
 
   -- the state once the new object is made and has the old one's bytes
@@ -202,7 +200,7 @@ module _ (unit : ℕ → ℕ) (units : Units unit) (s : List ℕ) (k : Accounts)
     filled_checked = record { extent = written.allowed; accounted = written.passes; consistent = filled_fits; exists = r.checked.exists }
 
     -- the old object can be released in it: its handle names it, the quota has its record
-    filled_named : lookup h (render filled.blocks) ≡ some old
+    filled_named : lookup h (render filled.blocks) ≡ Some old
     filled_named =
         let x = still_releasable (state_of s k) start q old new room fresh there held in
         (lookup_exactly h (render filled.blocks) old (rw written.objects (copied_good old new made made_good).tests.differ)).1
@@ -218,11 +216,11 @@ module _ (unit : ℕ → ℕ) (units : Units unit) (s : List ℕ) (k : Accounts)
 
   -- allocate granted an object, and the old one's bytes were copied to it
   module _ (o : Octets s) (l : Limits k) (t : List ℕ) (x : HandleResult) (e : handle_outcome t x ≡ allocate unit s k q n) (new : Handle)
-      (a : x.answer ≡ Given new) (t₂ : List ℕ)
+      (a : x.answer ≡ Ok new) (t₂ : List ℕ)
       (c : t₂ ≡ copy_part old.base new.base (min new.length old.length) t) where
     no_refusal : first_refusal (allocate_lines unit s k q n) ≡ 0
     unfolding handle_values
-    no_refusal = number_is t x e ∙ ap (λ (y : HandleAnswer). (handle_values y).refusal) a
+    no_refusal = number_is t x e ∙ ap (λ (y : Result Handle Refusal). (handle_values y).refusal) a
 
     passed : Allocatable unit s k q n
     passed = allocate_passed unit s k q n ((accepted_exactly (allocate_lines unit s k q n) (by_lines unit (Allocate q n) s k).numbered).0 no_refusal)
@@ -233,7 +231,7 @@ module _ (unit : ℕ → ℕ) (units : Units unit) (s : List ℕ) (k : Accounts)
 
     new_is : new ≡ new_object unit s k n
     unfolding handle_values
-    new_is = sym (ap (λ (y : HandleAnswer). (handle_values y).handle) a) ∙ ap (λ (y : Outcome). y.values.handle) granted_is
+    new_is = sym (ap (λ (y : Result Handle Refusal). (handle_values y).handle) a) ∙ ap (λ (y : Outcome). y.values.handle) granted_is
 
     accounts_are : x.accounts ≡ (made o l passed).accounts
     accounts_are = ap (λ (y : Outcome). y.accounts) granted_is
@@ -244,10 +242,10 @@ module _ (unit : ℕ → ℕ) (units : Units unit) (s : List ℕ) (k : Accounts)
         c ∙ (λ i. copy_part old.base (new_is i).base (min (new_is i).length old.length) (u i)) ∙ sym (filled_bytes o l passed)
 
     -- release may be asked for: the object is named, and the quota's record stands where it stood
-    pub copied_named : lookup h t₂ ≡ some old
+    pub copied_named : lookup h t₂ ≡ Some old
     copied_named = rw bytes_are (filled_named o l passed)
 
-    pub copied_place : (i : ℕ) → find_hold old.serial q k ≡ At i → find_hold old.serial q x.accounts ≡ At i
+    pub copied_place : (i : ℕ) → find_hold old.serial q k ≡ Some i → find_hold old.serial q x.accounts ≡ Some i
     unfolding find_hold allocated take_record
     copied_place i e =
         let w : Hold = record { serial = (new_object unit s k n).serial; quota = q; count = 1 } in

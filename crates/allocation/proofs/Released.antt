@@ -2,12 +2,12 @@
 -- Only the record at the place that was found changes. While its count is above 1 it stays a record of the same object, so every object is still
 -- held. The last hold makes it zero, so every other object is still held, and the object is held exactly if some other record is for it. If none
 -- is, its block alone is vacated, since no other live block has its serial.
+use Rattle.std.specs.Prelude.{Option, Some}
 use Prim.Native.Nat.{ℕ, zero, suc, ◌+◌, ◌-◌, ◌≤◌, ◌<◌}
 use native.Mathlib.Omega.{arith}
 use mathlib.Core.Path.{◌≡◌, refl, ap, sym, ◌∙◌}
 use mathlib.Core.List.{List, [], ◌∷◌, ◌++◌}
 use mathlib.Core.Bool.{Bool, true, false, not, ◌&&◌, ◌||◌, and-false}
-use mathlib.Core.Option.{Option}
 use lib.ListN.{length, get_or, set}
 use lib.Dec.{eqb}
 use borrow.Author.Tests.{eqb-true, eqb-false, eq-eqb, ne_eqb, not-true}
@@ -32,11 +32,9 @@ use Rattle.model.proofs.Blocks.{objects_live, objects_free, objects_append, live
 use Rattle.model.proofs.Consistent.{Tests, tests_exactly, accounted_cut, accounted_apart, accounted_facts, is_for_exactly}
 use Rattle.model.proofs.Settle.{stays_objects, settle_same, settle_one}
 use Rattle.lookup.specs.declared.Met.{Met}
-use Rattle.lookup.specs.declared.Lookup.TheVariants.{Found}
 use Rattle.lookup.specs.Walk.{object_met, find_object}
 use Rattle.lookup.proofs.Parsed.{Stands}
 use Rattle.lookup.proofs.Named.{Named, lookup_found}
-use Rattle.accounts.specs.declared.Place.TheVariants.{At}
 use Rattle.results.specs.Results.{outcome}
 use Rattle.allocation.specs.Releasing.{claim_dropped}
 use Rattle.writer.specs.Freeing.{Inside, vacate_block}
@@ -153,7 +151,7 @@ module _ (kind : ℕ) (bs : List Block) (w : AllWritable bs) (a : free_apart bs 
       still xs x o = stays_all hs hs' xs x (other t.block.serial) o (λ b l p u. rw (f b.serial (not-true _ (implies (live b) _ p l))) u)
 
 -- a handle that names the object of the block m, in a heap and accounts that are consistent
-module _ (s : List ℕ) (k : Accounts) (o : Octets s) (ok : accounted s k ≡ true) (h : Handle) (m : Met) (e : find_object h s ≡ Found m) where
+module _ (s : List ℕ) (k : Accounts) (o : Octets s) (ok : accounted s k ≡ true) (h : Handle) (m : Met) (e : find_object h s ≡ Some m) where
   named : Named s (blocks_of s) h m
   named = lookup_found s (blocks_of s) (accounted_cut s k ok).0 h m e
 
@@ -205,7 +203,7 @@ module _ (s : List ℕ) (k : Accounts) (o : Octets s) (ok : accounted s k ≡ tr
       (first_some (names h) (objects_of s) (object_met m) named.named).0
 
   -- the quota's record for the object stands at place i
-  module _ (q i : ℕ) (p : find_hold m.serial q k ≡ At i) where
+  module _ (q i : ℕ) (p : find_hold m.serial q k ≡ Some i) where
     record_serial : (hold_at i k).serial ≡ m.serial
     unfolding find_hold hold_at
     record_serial = ((is_for_exactly m.serial q (get_or k.holds i zero_hold)).0 (found_first (is_for m.serial q) k.holds i p).passes).1

@@ -1,4 +1,5 @@
 -- Whether a quota's record for an object is the only one: the object is held without it exactly where another quota has a record.
+use Rattle.std.specs.Prelude.{Some}
 use Prim.Native.Nat.{ℕ, suc, ◌<◌}
 use mathlib.Core.Path.{◌≡◌, refl, ap, sym, ◌∙◌}
 use mathlib.Core.List.{List, [], ◌∷◌}
@@ -10,7 +11,6 @@ use lib.ListN.{length, get_or, set, length-set}
 use lib.Seq.{get_or-set_same, get_or-set_other}
 use Rattle.accounts.specs.declared.Accounts.{Accounts}
 use Rattle.accounts.specs.declared.Hold.{Hold}
-use Rattle.accounts.specs.declared.Place.TheVariants.{At}
 use Rattle.accounts.specs.Accounts.{zero_hold, used, is_for, find_hold}
 use Rattle.accounts.proofs.Laws.{found_first}
 use Rattle.lists.specs.Lists.{any}
@@ -29,7 +29,7 @@ any_same p r [] (y ∷ ys) e f = absurd (omega arith)
 any_same p r (x ∷ xs) [] e f = absurd (omega arith)
 any_same p r (x ∷ xs) (y ∷ ys) e f = rw (f 0 (omega arith), any_same p r xs ys (omega arith) (λ j l. f (suc j) (omega arith)))
 
-module _ (s : List ℕ) (k : Accounts) (ok : accounted s k ≡ true) (t q i : ℕ) (p : find_hold t q k ≡ At i) where
+module _ (s : List ℕ) (k : Accounts) (ok : accounted s k ≡ true) (t q i : ℕ) (p : find_hold t q k ≡ Some i) where
   abbrev at : ℕ → Hold
   at j = get_or k.holds j zero_hold
 

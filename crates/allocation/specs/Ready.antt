@@ -1,10 +1,8 @@
 -- What a call has shown before it changes anything.
-use Rattle.std.specs.Prelude.{ℕ, ◌≤◌, ◌<◌, ◌≡◌, List, true, length}
+use Rattle.std.specs.Prelude.{ℕ, ◌≤◌, ◌<◌, ◌≡◌, List, true, length, Some}
 use Rattle.accounts.specs.declared.Accounts.{Accounts}
 use Rattle.accounts.specs.Accounts.{QUOTAS, ALLOCATE, permits, find_hold}
-use Rattle.accounts.specs.declared.Place.TheVariants.{At}
 use Rattle.lookup.specs.declared.Met.{Met}
-use Rattle.lookup.specs.declared.Lookup.TheVariants.{Found}
 use Rattle.lookup.specs.Walk.{find_object}
 use Rattle.model.specs.Consistent.{allowed, accounted as is_accounted, consistent as is_consistent}
 use Rattle.model.specs.Refusals.{greatest_length}
@@ -28,5 +26,5 @@ pub record Ready (unit : ℕ → ℕ) (s : List ℕ) (k : Accounts) (q n : ℕ) 
 pub record Holding (unit : ℕ → ℕ) (s : List ℕ) (k : Accounts) (q : ℕ) (m : Met) (i : ℕ) : Type 0 where
   pub checked : Checked unit s k q
   pub handle : Handle
-  pub named : find_object handle s ≡ Found m
-  pub place : find_hold m.serial q k ≡ At i
+  pub named : find_object handle s ≡ Some m
+  pub place : find_hold m.serial q k ≡ Some i

@@ -9,10 +9,10 @@ ghost use Rattle.words.specs.Words.{edition_of, last_of, holds_of, accounts_of, 
 ghost use Rattle.survey.specs.Survey.{shares};
 ghost use Rattle.allocation.specs.Asked.{Rounded, Grantable};
 
-use crate::requests::{LONGEST, given, request};
-use accounts::{ALLOCATE, HOLDS, Hold, QUOTAS};
-use lookup::Fit;
-use model::{GREATEST_SERIAL, Handle, HandleAnswer, Refusal, Verdict};
+use crate::requests::{admitted, given, request};
+use accounts::Hold;
+use lookup::Met;
+use model::{GREATEST_SERIAL, Handle, Refusal};
 use words::WORDS;
 
 // Rules 8.9 and 8.10: a quota pays for a new object and holds it once.
@@ -40,10 +40,10 @@ pub(crate) fn grant(
     quota: u32,
     size: usize,
     unit: u32,
-    low: usize,
-    fit: usize,
-) -> HandleAnswer
-    requires { Grantable heap.old (accounts_of words.old) quota size unit low fit }
+    unused: Option<usize>,
+    fit: Option<(Met, usize)>,
+) -> Result<Handle, Refusal>
+    requires { Grantable heap.old (accounts_of words.old) quota size unit unused fit }
     ensures holds { (n : ℕ) → Rounded (edition_of words.old) n size unit
         → handle_outcome heap.new (handle_result words.new result)
         ≡ allocate_of (table (edition_of words.old)) heap.old (accounts_of words.old) quota n }
@@ -54,26 +54,31 @@ pub(crate) fn grant(
     let length = size as u32;
     let charge = length + 8;
     if words::remaining(words, quota) < charge {
-        return HandleAnswer::Refused(Refusal::QuotaExceeded);
+        return Err(Refusal::QuotaExceeded);
     }
-    if HOLDS <= low {
-        return HandleAnswer::Refused(Refusal::HoldsExhausted);
-    }
+    let Some(place) = unused else {
+        return Err(Refusal::HoldsExhausted);
+    };
     let last = words::last_serial(words);
     if GREATEST_SERIAL <= last {
-        return HandleAnswer::Refused(Refusal::SerialsExhausted);
+        return Err(Refusal::SerialsExhausted);
     }
-    let Fit::At(block, base) = survey::room(heap, fit, unit) else {
-        return HandleAnswer::Refused(Refusal::NoSpace);
+    let Some((block, base)) = fit else {
+        return Err(Refusal::NoSpace);
     };
     let serial = last + 1;
-    book(words, quota as u8, charge, low, serial);
+    book(words, quota as u8, charge, place, serial);
     writer::carve(heap, block, base, size, serial);
     given(base, length, serial)
 }
 
 // Allocation for a length of any size.
-fn allocate_wide(heap: &mut [u8], words: &mut [u32; WORDS], quota: u32, length: u64) -> HandleAnswer
+fn allocate_wide(
+    heap: &mut [u8],
+    words: &mut [u32; WORDS],
+    quota: u32,
+    length: u64,
+) -> Result<Handle, Refusal>
     ensures holds { handle_outcome heap.new (handle_result words.new result)
         ≡ allocate_of (table (edition_of words.old)) heap.old (accounts_of words.old) quota length }
     ensures pads { Padded words.old words.new }
@@ -84,22 +89,8 @@ fn allocate_wide(heap: &mut [u8], words: &mut [u32; WORDS], quota: u32, length: 
         serial: 0,
     };
     let wanted = request(words::edition(words), quota, none, length);
-    let known = survey::survey(heap, words, wanted);
-    if let Verdict::Refused(refusal) = survey::verdict(known.refusal) {
-        return HandleAnswer::Refused(refusal);
-    }
-    if QUOTAS <= quota as usize {
-        return HandleAnswer::Refused(Refusal::QuotaNumber);
-    }
-    if words::permissions(words, quota) / ALLOCATE % 2 == 0 {
-        return HandleAnswer::Refused(Refusal::NotPermitted);
-    }
-    if length == 0 {
-        return HandleAnswer::Refused(Refusal::ObjectLength);
-    }
-    if LONGEST < length {
-        return HandleAnswer::Refused(Refusal::ObjectLength);
-    }
+    let surveyed = survey::survey(heap, words, wanted);
+    let known = admitted(words, surveyed, quota, length)?;
     grant(
         heap,
         words,
@@ -112,7 +103,12 @@ fn allocate_wide(heap: &mut [u8], words: &mut [u32; WORDS], quota: u32, length: 
 }
 
 // A new object of at least `length` bytes.
-pub fn allocate(heap: &mut [u8], words: &mut [u32; WORDS], quota: u32, length: u32) -> HandleAnswer
+pub fn allocate(
+    heap: &mut [u8],
+    words: &mut [u32; WORDS],
+    quota: u32,
+    length: u32,
+) -> Result<Handle, Refusal>
     ensures holds { handle_outcome heap.new (handle_result words.new result)
         ≡ allocate_of (table (edition_of words.old)) heap.old (accounts_of words.old) quota length }
     ensures pads { Padded words.old words.new }
@@ -127,7 +123,7 @@ pub fn allocate_array(
     quota: u32,
     count: u32,
     size: u32,
-) -> HandleAnswer
+) -> Result<Handle, Refusal>
     ensures holds { handle_outcome heap.new (handle_result words.new result)
         ≡ allocate_array (table (edition_of words.old)) heap.old (accounts_of words.old) quota count size }
     ensures pads { Padded words.old words.new }

@@ -9,20 +9,21 @@ ghost use Rattle.allocation.specs.Asked.{Rounded, Exchangeable};
 
 use crate::allocating::grant;
 use crate::releasing::drop_claim;
-use crate::requests::{request, shorter};
-use accounts::{ALLOCATE, HOLDS, QUOTAS};
-use model::{GREATEST_LENGTH, Handle, HandleAnswer, Refusal, Verdict};
-use survey::{Surveyed, Wanted};
+use crate::requests::{admitted, request};
+use model::{Handle, Refusal};
+use survey::{Known, Wanted};
 use words::WORDS;
 
 // Reallocation behind the first four lines: the old object and the quota's record for it, a new object, the bytes that both have room for, and one
 // hold less on the old object. It stands where it stood, and the quota's record for it too.
+// It stands by itself, so that what it needs is on the stack only while it runs, and not beside the survey.
+#[inline(never)]
 fn exchange(
     heap: &mut [u8],
     words: &mut [u32; WORDS],
     wanted: Wanted,
-    known: Surveyed,
-) -> HandleAnswer
+    known: Known,
+) -> Result<Handle, Refusal>
     requires { Exchangeable heap.old (accounts_of words.old) wanted known }
     ensures holds { (n : ℕ) → Rounded (edition_of words.old) n wanted.need wanted.unit
         → handle_outcome heap.new (handle_result words.new result)
@@ -31,17 +32,16 @@ fn exchange(
     ensures pads { Padded words.old words.new }
 {
     words::count(*words);
-    if !known.found {
-        return HandleAnswer::Refused(Refusal::NoSuchObject);
-    }
-    let length = known.size - 8;
+    let Some(block) = known.object else {
+        return Err(Refusal::NoSuchObject);
+    };
+    let length = block.size - 8;
     if wanted.length as usize != length {
-        return HandleAnswer::Refused(Refusal::NoSuchObject);
+        return Err(Refusal::NoSuchObject);
     }
-    let place = known.holder;
-    if HOLDS <= place {
-        return HandleAnswer::Refused(Refusal::NotHeld);
-    }
+    let Some(place) = known.holder else {
+        return Err(Refusal::NotHeld);
+    };
     let granted = grant(
         heap,
         words,
@@ -51,18 +51,18 @@ fn exchange(
         known.low,
         known.fit,
     );
-    let HandleAnswer::Given(new) = granted else {
+    let Ok(new) = granted else {
         return granted;
     };
-    let count = shorter(new.length as usize, length);
-    layout::copy_part(heap, known.at + 8, new.base as usize, count);
+    let count = (new.length as usize).min(length);
+    layout::copy_part(heap, block.at + 8, new.base as usize, count);
     drop_claim(
         heap,
         words,
         wanted.quota,
-        known.at,
+        block.at,
         place,
-        known.other < HOLDS,
+        known.other.is_some(),
     );
     granted
 }
@@ -74,27 +74,13 @@ pub fn reallocate(
     quota: u32,
     handle: Handle,
     length: u32,
-) -> HandleAnswer
+) -> Result<Handle, Refusal>
     ensures holds { handle_outcome heap.new (handle_result words.new result)
         ≡ reallocate_of (table (edition_of words.old)) heap.old (accounts_of words.old) quota handle length }
     ensures pads { Padded words.old words.new }
 {
     let wanted = request(words::edition(words), quota, handle, length as u64);
-    let known = survey::survey(heap, words, wanted);
-    if let Verdict::Refused(refusal) = survey::verdict(known.refusal) {
-        return HandleAnswer::Refused(refusal);
-    }
-    if QUOTAS <= quota as usize {
-        return HandleAnswer::Refused(Refusal::QuotaNumber);
-    }
-    if words::permissions(words, quota) / ALLOCATE % 2 == 0 {
-        return HandleAnswer::Refused(Refusal::NotPermitted);
-    }
-    if length == 0 {
-        return HandleAnswer::Refused(Refusal::ObjectLength);
-    }
-    if GREATEST_LENGTH < length {
-        return HandleAnswer::Refused(Refusal::ObjectLength);
-    }
+    let surveyed = survey::survey(heap, words, wanted);
+    let known = admitted(words, surveyed, quota, length as u64)?;
     exchange(heap, words, wanted, known)
 }

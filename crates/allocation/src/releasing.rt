@@ -1,8 +1,7 @@
 // Release (rules 8.16 to 8.19): a quota gives up one hold, and the block that no quota holds any more becomes free.
-ghost use Rattle.std.specs.Prelude.{◌≡◌};
+ghost use Rattle.std.specs.Prelude.{◌≡◌, Ok};
 ghost use Rattle.rounding.specs.Rounding.{table};
 ghost use Rattle.model.specs.Calls.{release as release_of};
-ghost use Rattle.model.specs.declared.AmountAnswer.TheVariants.{Amount};
 ghost use Rattle.lookup.specs.Walk.{object_met};
 ghost use Rattle.allocation.specs.Releasing.{claim_dropped};
 ghost use Rattle.words.specs.Words.{edition_of, accounts_of, Padded};
@@ -10,8 +9,8 @@ ghost use Rattle.results.specs.Results.{amount_outcome, amount_result};
 ghost use Rattle.survey.specs.Survey.{block_at};
 ghost use Rattle.allocation.specs.Asked.{Droppable};
 
-use accounts::{HOLDS, Hold, QUOTAS};
-use model::{AmountAnswer, Handle, Refusal, Verdict};
+use accounts::{Hold, QUOTAS};
+use model::{Handle, Refusal};
 use words::WORDS;
 
 // One hold of a quota on the block at a place is given up; the last one gives the quota its charge back, and the block of an object that no quota holds is
@@ -25,7 +24,7 @@ pub(crate) fn drop_claim(
     shared: bool,
 ) -> u32
     requires { Droppable heap.old (accounts_of words.old) quota (block_at at heap.old) place shared }
-    ensures holds { amount_outcome heap.new (amount_result words.new (Amount result))
+    ensures holds { amount_outcome heap.new (amount_result words.new (Ok result))
         ≡ claim_dropped heap.old (accounts_of words.old) quota (object_met (block_at at heap.old)) }
     ensures pads { Padded words.old words.new }
 {
@@ -57,25 +56,21 @@ pub fn release(
     words: &mut [u32; WORDS],
     quota: u32,
     handle: Handle,
-) -> AmountAnswer
+) -> Result<u32, Refusal>
     ensures holds { amount_outcome heap.new (amount_result words.new result)
         ≡ release_of (table (edition_of words.old)) heap.old (accounts_of words.old) quota handle }
     ensures pads { Padded words.old words.new }
 {
-    let known = survey::survey(heap, words, survey::asked(quota, handle));
-    if let Verdict::Refused(refusal) = survey::verdict(known.refusal) {
-        return AmountAnswer::Refused(refusal);
-    }
+    let known = survey::survey(heap, words, survey::asked(quota, handle))?;
     if QUOTAS <= quota as usize {
-        return AmountAnswer::Refused(Refusal::QuotaNumber);
+        return Err(Refusal::QuotaNumber);
     }
-    if !known.found {
-        return AmountAnswer::Refused(Refusal::NoSuchObject);
-    }
-    let place = known.holder;
-    if HOLDS <= place {
-        return AmountAnswer::Refused(Refusal::NotHeld);
-    }
-    let amount = drop_claim(heap, words, quota, known.at, place, known.other < HOLDS);
-    AmountAnswer::Amount(amount)
+    let Some(block) = known.object else {
+        return Err(Refusal::NoSuchObject);
+    };
+    let Some(place) = known.holder else {
+        return Err(Refusal::NotHeld);
+    };
+    let shared = known.other.is_some();
+    Ok(drop_claim(heap, words, quota, block.at, place, shared))
 }

@@ -1,15 +1,16 @@
-// What the calls have in common, whatever form the accounts have: a request as a question to the survey, the answer to one that is accepted, and how much of
-// an old object a new one has room for.
-ghost use Rattle.std.specs.Prelude.{◌≡◌, ◌≤◌, min};
+// What the calls that make an object have in common: a request as a question to the survey, its first lines, and the answer to one that is accepted.
+ghost use Rattle.std.specs.Prelude.{◌≡◌, ◌≤◌, Ok};
 ghost use Rattle.layout.specs.Blocks.{greatest_heap};
-ghost use Rattle.model.specs.declared.HandleAnswer.TheVariants.{Given};
-ghost use Rattle.allocation.specs.Asked.{Asks};
+ghost use Rattle.words.specs.Words.{accounts_of};
+ghost use Rattle.allocation.specs.Asked.{Admitted, Asks};
 
-use model::{GREATEST_LENGTH, Handle, HandleAnswer};
-use survey::Wanted;
+use accounts::{ALLOCATE, QUOTAS};
+use model::{GREATEST_LENGTH, Handle, Refusal};
+use survey::{Known, Wanted};
+use words::WORDS;
 
 // The greatest length of a request, as wide as a product.
-pub(crate) const LONGEST: u64 = GREATEST_LENGTH as u64;
+const LONGEST: u64 = GREATEST_LENGTH as u64;
 
 // What the survey is asked for: an object, a quota's record for it, and room for a new object where its length is allowed.
 pub(crate) fn request(edition: u8, quota: u32, handle: Handle, length: u64) -> Wanted
@@ -34,25 +35,40 @@ pub(crate) fn request(edition: u8, quota: u32, handle: Handle, length: u64) -> W
     }
 }
 
+// The first lines of a request for so many bytes: what the survey gave, the quota's number, its permission and the length.
+pub(crate) fn admitted(
+    words: &[u32; WORDS],
+    surveyed: Result<Known, Refusal>,
+    quota: u32,
+    length: u64,
+) -> Result<Known, Refusal>
+    ensures { Admitted (accounts_of words.now) surveyed quota length result }
+{
+    let known = surveyed?;
+    if QUOTAS <= quota as usize {
+        return Err(Refusal::QuotaNumber);
+    }
+    if words::permissions(words, quota) / ALLOCATE % 2 == 0 {
+        return Err(Refusal::NotPermitted);
+    }
+    if length == 0 {
+        return Err(Refusal::ObjectLength);
+    }
+    if LONGEST < length {
+        return Err(Refusal::ObjectLength);
+    }
+    Ok(known)
+}
+
 // An accepted call's answer.
-pub(crate) fn given(base: usize, length: u32, serial: u32) -> HandleAnswer
+pub(crate) fn given(base: usize, length: u32, serial: u32) -> Result<Handle, Refusal>
     requires { base ≤ greatest_heap }
-    ensures { result ≡ Given (record { base = base; length = length; serial = serial }) }
+    ensures { result ≡ Ok (record { base = base; length = length; serial = serial }) }
 {
     let handle = Handle {
         base: base as u32,
         length: length,
         serial: serial,
     };
-    HandleAnswer::Given(handle)
-}
-
-// The shorter of two lengths.
-pub(crate) fn shorter(a: usize, b: usize) -> usize
-    ensures { result ≡ min a b }
-{
-    if a < b {
-        return a;
-    }
-    b
+    Ok(handle)
 }

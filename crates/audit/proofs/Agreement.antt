@@ -1,11 +1,11 @@
 -- The tests of `accounted_blocks` (rules 5.3 to 5.8) about objects, records and what the quotas owe, and how they go on from one object to the
 -- others: they hold of a first object and the others exactly if its serial is given and held, the quotas can pay for it, and they hold of the others once
 -- its records are struck and it is paid for. With no object left, they hold exactly if no record is used and nothing is owed.
+use Rattle.std.specs.Prelude.{Some}
 use Prim.Native.Nat.{ℕ, ◌+◌, ◌<◌, ◌≤◌}
 use mathlib.Core.Path.{◌≡◌, refl, sym, ◌∙◌}
 use mathlib.Core.Bool.{true, false, not, cond, ◌&&◌, false≢true}
 use mathlib.Core.List.{List, [], ◌∷◌}
-use mathlib.Core.Option.{some}
 use mathlib.Core.Logic.{◌↔◌}
 use native.Mathlib.Omega.{arith}
 use borrow.Author.Tests.{eq-eqb, eqb-true, le-leb, leb-true, not-true}
@@ -41,10 +41,10 @@ module _ (last : ℕ) (o : Handle) (os : List Handle) (hs : List Hold) (owed : L
     pub given : o.serial ≤ last
     pub recorded : held hs o.serial ≡ true
     pub payment : Payment
-    pub paid : pay o.serial (charge_of o.length) (keys_of hs) (some (unpaid owed)) ≡ some payment
+    pub paid : pay o.serial (charge_of o.length) (keys_of hs) (Some (unpaid owed)) ≡ Some payment
     pub rest : Agrees last os (strike_holds o.serial hs) payment.owed
 
-  pub settles : (p : Payment) → pay o.serial (charge_of o.length) (keys_of hs) (some (unpaid owed)) ≡ some p
+  pub settles : (p : Payment) → pay o.serial (charge_of o.length) (keys_of hs) (Some (unpaid owed)) ≡ Some p
       → Settles o.serial (charge_of o.length) hs (unpaid owed) p
   settles p e = pay_settles o.serial (charge_of o.length) live hs well (unpaid owed) p (length-replicate {A = ℕ} QUOTAS 0, long) e
 

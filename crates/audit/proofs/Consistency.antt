@@ -3,11 +3,11 @@
 -- objects, records and debts hold of what is left (`audit_exactly`): a free block changes nothing but what the next one stands behind; a live block
 -- is the first object of `Agreement`. At the start the keys are all records' and a quota owes grant less remainder, so these tests are
 -- `accounted_blocks`, together with what the tables alone must be: well-formed records, and no remainder above its grant.
+use Rattle.std.specs.Prelude.{Option, Some, None}
 use Prim.Native.Nat.{ℕ, ◌+◌}
 use mathlib.Core.Path.{◌≡◌, refl, ap, sym, ◌∙◌}
 use mathlib.Core.Bool.{Bool, true, false, not, cond, ◌&&◌, true≢false, false≢true}
 use mathlib.Core.List.{List, [], ◌∷◌, map}
-use mathlib.Core.Option.{Option, none, some}
 use mathlib.Core.Logic.{◌↔◌}
 use native.Mathlib.Omega.{arith}
 use borrow.Author.Tests.{le-leb, leb-true}
@@ -44,24 +44,24 @@ from free hs owed = record { free = free; keys = keys_of hs; owed = owed }
 abbrev Says : ℕ → List Block → Type 0
 Says last bs =
     (at : ℕ) (free : Bool) (hs : List Hold) (owed : List ℕ) → all well_formed hs ≡ true → length owed ≡ QUOTAS
-    → (audit last bs (some (from free hs owed)) ≡ true) ↔ Passes last bs at free hs owed
+    → (audit last bs (Some (from free hs owed)) ≡ true) ↔ Passes last bs at free hs owed
 
 module _ (last : ℕ) (b : Block) (bs : List Block) (ih : Says last bs) (at : ℕ) (free : Bool) (hs : List Hold) (owed : List ℕ)
     (well : all well_formed hs ≡ true) (long : length owed ≡ QUOTAS) where
   -- a free block
-  free_says : b.serial ≡ 0 → (audit last (b ∷ bs) (some (from free hs owed)) ≡ true) ↔ Passes last (b ∷ bs) at free hs owed
+  free_says : b.serial ≡ 0 → (audit last (b ∷ bs) (Some (from free hs owed)) ≡ true) ↔ Passes last (b ∷ bs) at free hs owed
   free_says z =
       rw (objects_free at b bs z, cut_free free b bs z, audit_step last b bs (from free hs owed), step_free last b.serial (size b) (from free hs owed) z)
       (go free (ih (at + size b) true hs owed well long))
     where
-      go : (free : Bool) → (audit last bs (some (from true hs owed)) ≡ true) ↔ Passes last bs (at + size b) true hs owed
-          → (audit last bs (cond free none (some (from true hs owed))) ≡ true) ↔
+      go : (free : Bool) → (audit last bs (Some (from true hs owed)) ≡ true) ↔ Passes last bs (at + size b) true hs owed
+          → (audit last bs (cond free None (Some (from true hs owed))) ≡ true) ↔
           (((not free && cut_after true bs) ≡ true) × Agrees last (objects_from (at + size b) bs) hs owed)
       go true f = (λ e. absurd (false≢true (sym (audit_none last bs) ∙ e)), λ r. absurd (false≢true r.0))
       go false f = f
 
   -- a quarantined block
-  quarantined_says : (b.serial ≡ 0 → ⊥) → b.serial ≡ QUARANTINED → (audit last (b ∷ bs) (some (from free hs owed)) ≡ true) ↔ Passes last
+  quarantined_says : (b.serial ≡ 0 → ⊥) → b.serial ≡ QUARANTINED → (audit last (b ∷ bs) (Some (from free hs owed)) ≡ true) ↔ Passes last
       (b ∷ bs) at free hs owed
   quarantined_says n z =
       rw (
@@ -73,8 +73,8 @@ module _ (last : ℕ) (b : Block) (bs : List Block) (ih : Says last bs) (at : �
       )
       (go (leb 16 (size b)) (ih (at + size b) false hs owed well long))
     where
-      go : (t : Bool) → (audit last bs (some (from false hs owed)) ≡ true) ↔ Passes last bs (at + size b) false hs owed
-          → (audit last bs (cond t (some (from false hs owed)) none) ≡ true)
+      go : (t : Bool) → (audit last bs (Some (from false hs owed)) ≡ true) ↔ Passes last bs (at + size b) false hs owed
+          → (audit last bs (cond t (Some (from false hs owed)) None) ≡ true)
           ↔ (((t && cut_after false bs) ≡ true) × Agrees last (objects_from (at + size b) bs) hs owed)
       go true f = f
       go false f = (λ e. absurd (false≢true (sym (audit_none last bs) ∙ e)), λ r. absurd (false≢true r.0))
@@ -83,13 +83,13 @@ module _ (last : ℕ) (b : Block) (bs : List Block) (ih : Says last bs) (at : �
   charge : size b ≡ charge_of (length b.body)
   charge = omega arith
 
-  paid_for : (p : Payment) → (pay b.serial (size b) (keys_of hs) (some (unpaid owed)) ≡ some p)
-      ↔ (pay b.serial (charge_of (length b.body)) (keys_of hs) (some (unpaid owed)) ≡ some p)
+  paid_for : (p : Payment) → (pay b.serial (size b) (keys_of hs) (Some (unpaid owed)) ≡ Some p)
+      ↔ (pay b.serial (charge_of (length b.body)) (keys_of hs) (Some (unpaid owed)) ≡ Some p)
   paid_for p = rw charge (λ e. e, λ e. e)
 
   module _ (n : b.serial ≡ 0 → ⊥) (m : b.serial ≡ QUARANTINED → ⊥) where
-    others : (p : Payment) → pay b.serial (size b) (keys_of hs) (some (unpaid owed)) ≡ some p
-        → (audit last bs (some (record { free = false; keys = strike b.serial (keys_of hs); owed = p.owed })) ≡ true) ↔ Passes last bs
+    others : (p : Payment) → pay b.serial (size b) (keys_of hs) (Some (unpaid owed)) ≡ Some p
+        → (audit last bs (Some (record { free = false; keys = strike b.serial (keys_of hs); owed = p.owed })) ≡ true) ↔ Passes last bs
         (at + size b) false (strike_holds b.serial hs) p.owed
     others p e =
         let g = settles last (object at b) (objects_from (at + size b) bs) hs owed well long n p ((paid_for p).0 e) in
@@ -127,7 +127,7 @@ module _ (last : ℕ) (b : Block) (bs : List Block) (ih : Says last bs) (at : �
         ap (audit last bs) (step_passes last b.serial (size b) (from free hs owed) n m f.payment l)
         ∙ (others f.payment e).1 (and_right (leb 16 (size b)) (cut_after false bs) r.0, f.rest)
 
-    live_says : (audit last (b ∷ bs) (some (from free hs owed)) ≡ true) ↔ Passes last (b ∷ bs) at free hs owed
+    live_says : (audit last (b ∷ bs) (Some (from free hs owed)) ≡ true) ↔ Passes last (b ∷ bs) at free hs owed
     live_says = rw (objects_live at b bs n m, cut_live free b bs n, audit_step last b bs (from free hs owed)) (there, back)
 
 pub audit_exactly : (last : ℕ) (bs : List Block) → Says last bs
@@ -172,11 +172,11 @@ module _ (bs : List Block) (k : Accounts) (long : length k.quotas ≡ QUOTAS) wh
   owed_at q = get_or-map owes k.quotas q zero_quota
 
   says : all well_formed k.holds ≡ true
-      → (audit k.last_serial bs (some (begin (keys_of k.holds) (map owes k.quotas))) ≡ true) ↔ Passes k.last_serial bs 0 false
+      → (audit k.last_serial bs (Some (begin (keys_of k.holds) (map owes k.quotas))) ≡ true) ↔ Passes k.last_serial bs 0 false
       k.holds (map owes k.quotas)
   says w = audit_exactly k.last_serial bs 0 false k.holds (map owes k.quotas) w (length-map k.quotas owes ∙ long)
 
-  audited_tests : audited (some bs) k ≡ true → Tests bs k
+  audited_tests : audited (Some bs) k ≡ true → Tests bs k
   unfolding audited audit_parsed objects
   audited_tests e =
       let w = and_left (all well_formed k.holds) _ e in
@@ -195,7 +195,7 @@ module _ (bs : List Block) (k : Accounts) (long : length k.quotas ≡ QUOTAS) wh
             let c = leb-true (entry q).remainder (entry q).grant (all_at solvent zero_quota k.quotas solid q l) in omega arith));
       }
 
-  tests_audited : Tests bs k → audited (some bs) k ≡ true
+  tests_audited : Tests bs k → audited (Some bs) k ≡ true
   unfolding audited audit_parsed objects
   tests_audited t =
       let balance = (balance_exactly (objects bs) k.holds k.quotas).0 t.balance in
@@ -215,17 +215,17 @@ module _ (bs : List Block) (k : Accounts) (long : length k.quotas ≡ QUOTAS) wh
       )))
 
   -- the audit of blocks is the definition's test
-  pub audit_is_accounted : audited (some bs) k ≡ accounted_blocks bs k
+  pub audit_is_accounted : audited (Some bs) k ≡ accounted_blocks bs k
   audit_is_accounted =
-      same_test (audited (some bs) k) (accounted_blocks bs k)
+      same_test (audited (Some bs) k) (accounted_blocks bs k)
       (λ e. (tests_exactly bs k).1 (audited_tests e))
       (λ e. tests_audited ((tests_exactly bs k).0 e))
 
 -- and of a heap
 parsed_is_accounted : (o : Option (List Block)) (k : Accounts) → length k.quotas ≡ QUOTAS → audited o k ≡ accounted_parsed o k
 unfolding audited audit_parsed accounted_parsed
-parsed_is_accounted none k long = and_no (all well_formed k.holds) _ (and_no (all solvent k.quotas) false refl)
-parsed_is_accounted (some bs) k long = audit_is_accounted bs k long
+parsed_is_accounted None k long = and_no (all well_formed k.holds) _ (and_no (all solvent k.quotas) false refl)
+parsed_is_accounted (Some bs) k long = audit_is_accounted bs k long
 
 pub audited_is_accounted : (s : List ℕ) (k : Accounts) → length k.quotas ≡ QUOTAS → audited (parse s) k ≡ accounted s k
 unfolding accounted

@@ -1,10 +1,10 @@
 -- The blocks of the audit, one after the other: what a free block and a live block do to the definition's tests on the cut and to its objects, and when
 -- the audit's step passes.
+use Rattle.std.specs.Prelude.{Option, Some, None}
 use Prim.Native.Nat.{ℕ, ◌+◌}
 use mathlib.Core.Path.{◌≡◌, refl, sym, ◌∙◌}
 use mathlib.Core.Bool.{Bool, true, false, not, cond, ◌&&◌, false≢true, and_assoc, and-false}
 use mathlib.Core.List.{List, [], ◌∷◌}
-use mathlib.Core.Option.{Option, none, some}
 use native.Mathlib.Omega.{arith}
 use borrow.Author.Tests.{eq-eqb, ne_eqb, not-true}
 use lib.Dec.{eqb, leb}
@@ -74,22 +74,22 @@ objects_serial at (b ∷ bs) = go (live b) refl (objects_serial (at + size b) bs
     go false e ih = ih
 
 -- the audit: one block, and a step that fails
-pub audit_step : (last : ℕ) (b : Block) (bs : List Block) (t : State) → audit last (b ∷ bs) (some t) ≡ audit last bs (visit last b.serial (size b) t)
+pub audit_step : (last : ℕ) (b : Block) (bs : List Block) (t : State) → audit last (b ∷ bs) (Some t) ≡ audit last bs (visit last b.serial (size b) t)
 unfolding audit
 audit_step last b bs t = refl
 
-pub audit_none : (last : ℕ) (bs : List Block) → audit last bs none ≡ false
+pub audit_none : (last : ℕ) (bs : List Block) → audit last bs None ≡ false
 unfolding audit
 audit_none last [] = refl
 audit_none last (b ∷ bs) = refl
 
 -- so a step before an audit that passes has not failed
-pub audit_some : (last : ℕ) (bs : List Block) (x : Option State) → audit last bs x ≡ true → (t : State) × (x ≡ some t)
-audit_some last bs none e = absurd (false≢true (sym (audit_none last bs) ∙ e))
-audit_some last bs (some t) e = (t, refl)
+pub audit_some : (last : ℕ) (bs : List Block) (x : Option State) → audit last bs x ≡ true → (t : State) × (x ≡ Some t)
+audit_some last bs None e = absurd (false≢true (sym (audit_none last bs) ∙ e))
+audit_some last bs (Some t) e = (t, refl)
 
 module _ (last s n : ℕ) (t : State) where
-  pub step_free : s ≡ 0 → visit last s n t ≡ cond t.free none (some (record { free = true; keys = t.keys; owed = t.owed }))
+  pub step_free : s ≡ 0 → visit last s n t ≡ cond t.free None (Some (record { free = true; keys = t.keys; owed = t.owed }))
   unfolding visit visit_free
   step_free z = rw (eq-eqb s 0 z)
 
@@ -98,34 +98,34 @@ module _ (last s n : ℕ) (t : State) where
     pub long : leb 16 n ≡ true
     pub given : leb s last ≡ true
     pub strikes : not (eqb (struck s t.keys) 0) ≡ true
-    pub paid : pay s n t.keys (some (unpaid t.owed)) ≡ some p
+    pub paid : pay s n t.keys (Some (unpaid t.owed)) ≡ Some p
 
   pub step_quarantined : (s ≡ 0 → ⊥) → s ≡ QUARANTINED → visit last s n t ≡ cond (leb 16 n)
-      (some (record { free = false; keys = t.keys; owed = t.owed })) none
+      (Some (record { free = false; keys = t.keys; owed = t.owed })) None
   unfolding visit visit_quarantined
   step_quarantined m z = rw (ne_eqb s 0 m, eq-eqb s QUARANTINED z)
 
   module _ (live : s ≡ 0 → ⊥) (alive : s ≡ QUARANTINED → ⊥) where
-    pub step_passes : (p : Payment) → Live p → visit last s n t ≡ some (record { free = false; keys = strike s t.keys; owed = p.owed })
+    pub step_passes : (p : Payment) → Live p → visit last s n t ≡ Some (record { free = false; keys = strike s t.keys; owed = p.owed })
     unfolding visit visit_live settled
     step_passes p l = rw (ne_eqb s 0 live, ne_eqb s QUARANTINED alive, l.long, l.given, l.strikes, l.paid)
 
-    pub passes_step : (t' : State) → visit last s n t ≡ some t'
-        → (p : Payment) × Live p × (some t' ≡ some (record { free = false; keys = strike s t.keys; owed = p.owed }))
+    pub passes_step : (t' : State) → visit last s n t ≡ Some t'
+        → (p : Payment) × Live p × (Some t' ≡ Some (record { free = false; keys = strike s t.keys; owed = p.owed }))
     unfolding visit visit_live settled
     passes_step t' e =
-        go (leb 16 n) (leb s last) (not (eqb (struck s t.keys) 0)) (pay s n t.keys (some (unpaid t.owed))) refl refl refl refl
+        go (leb 16 n) (leb s last) (not (eqb (struck s t.keys) 0)) (pay s n t.keys (Some (unpaid t.owed))) refl refl refl refl
         (rw (ne_eqb s 0 live, ne_eqb s QUARANTINED alive) at e)
       where
-        no : none ≡ some t' → (p : Payment) × Live p × (some t' ≡ some (record { free = false; keys = strike s t.keys; owed = p.owed }))
+        no : None ≡ Some t' → (p : Payment) × Live p × (Some t' ≡ Some (record { free = false; keys = strike s t.keys; owed = p.owed }))
         no e = let z : ◌≡◌ {A = ℕ} 0 1 = cc in absurd (omega arith)
 
         go : (x y z : Bool) (o : Option Payment) → leb 16 n ≡ x → leb s last ≡ y → not (eqb (struck s t.keys) 0) ≡ z
-            → pay s n t.keys (some (unpaid t.owed)) ≡ o
-            → cond (x && (y && z)) (settled (strike s t.keys) o) none ≡ some t'
-            → (p : Payment) × Live p × (some t' ≡ some (record { free = false; keys = strike s t.keys; owed = p.owed }))
+            → pay s n t.keys (Some (unpaid t.owed)) ≡ o
+            → cond (x && (y && z)) (settled (strike s t.keys) o) None ≡ Some t'
+            → (p : Payment) × Live p × (Some t' ≡ Some (record { free = false; keys = strike s t.keys; owed = p.owed }))
         go false y z o a b c d e = no e
         go true false z o a b c d e = no e
         go true true false o a b c d e = no e
-        go true true true none a b c d e = no e
-        go true true true (some p) a b c d e = (p, record { long = a; given = b; strikes = c; paid = d }, sym e)
+        go true true true None a b c d e = no e
+        go true true true (Some p) a b c d e = (p, record { long = a; given = b; strikes = c; paid = d }, sym e)

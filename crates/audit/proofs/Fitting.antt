@@ -1,11 +1,11 @@
 -- Objects in their units, of any table: block by block, a block in front adding its own test; and the tests of one object by its block's size and end.
+use Rattle.std.specs.Prelude.{Option, Some, None}
 use Prim.Native.Nat.{ℕ, ◌+◌, ◌*◌, ◌-◌, ◌/◌, ◌%◌, ◌≤◌}
 use native.Mathlib.Nat.{div-add-mod', add-mul-mod_self_right}
 use native.Mathlib.Omega.{arith}
 use mathlib.Core.Path.{◌≡◌, refl, ap, sym, ◌∙◌}
 use mathlib.Core.Bool.{Bool, true, false, ◌&&◌, and_assoc}
 use mathlib.Core.List.{List, []}
-use mathlib.Core.Option.{Option, none, some}
 use borrow.Author.Tests.{le-leb, eq-eqb, ne_eqb}
 use lib.Dec.{eqb, leb}
 use lib.ListN.{length}
@@ -34,8 +34,8 @@ swapped false d false = refl
 pub fitting_front : (unit : ℕ → ℕ) (kind at : ℕ) (b : Block) (rest : Option (List Block))
     → fitting unit kind at (in_front b rest) ≡ (fits_block unit kind b.serial (size b) (at + size b) && fitting unit kind (at + size b) rest)
 unfolding fitting in_front fits_block all in_units in_kind objects_from
-fitting_front unit kind at b none = sym (and_no (fits_block unit kind b.serial (size b) (at + size b)) false refl)
-fitting_front unit kind at b (some bs) =
+fitting_front unit kind at b None = sym (and_no (fits_block unit kind b.serial (size b) (at + size b)) false refl)
+fitting_front unit kind at b (Some bs) =
     by_eq b.serial 0
     (λ z. rw z)
     (λ z.
@@ -61,8 +61,8 @@ fitting_consistent unit s k e = rw e (go (parse s))
     go : (o : Option (List Block)) → (accounted_parsed o k && (fitting unit k.kind 0 o && all permissible (permissions k)))
         ≡ (accounted_parsed o k
         && (all (in_units unit) (objects_from 0 (or_else [] o)) && (all permissible (permissions k) && (all (in_kind k.kind) (or_else [] o) && true))))
-    go none = refl
-    go (some bs) =
+    go None = refl
+    go (Some bs) =
         ap (λ (x : Bool). accounted_blocks bs k && x)
         (whole (all (in_units unit) (objects_from 0 bs)) (all (in_kind k.kind) bs) (all permissible (permissions k)))
 

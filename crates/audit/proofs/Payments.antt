@@ -1,15 +1,16 @@
 -- The payment for one object, over records: it succeeds exactly if no quota has two records of the serial and each quota that has one owes the
 -- charge at least; and then each of these owes so much less. By induction on the records.
+use Rattle.std.specs.Prelude.{Some, None}
 use Prim.Native.Nat.{ℕ, ◌+◌, ◌-◌, ◌<◌, ◌≤◌}
 use mathlib.Core.Path.{◌≡◌, refl, ap, sym, subst, ◌∙◌}
 use mathlib.Core.Bool.{Bool, true, false, not, cond, ◌&&◌, ◌||◌, true≢false, false≢true}
 use mathlib.Core.List.{List, [], ◌∷◌}
-use mathlib.Core.Option.{none, some, none-ne-some}
 use native.Mathlib.Omega.{arith}
 use borrow.Author.Tests.{eq-eqb, ne_eqb, not-true}
 use lib.Dec.{eqb}
 use lib.ListN.{length, get_or, length-set}
 use lib.Seq.{get_or-set_same, get_or-set_other}
+use Rattle.std.proofs.lemmas.Option.{none-some}
 use Rattle.accounts.specs.declared.Hold.{Hold}
 use Rattle.accounts.specs.Accounts.{QUOTAS, is_for}
 use Rattle.lists.specs.Lists.{all, any}
@@ -42,15 +43,15 @@ has_more h hs q s = refl
 module _ (s c : ℕ) (live : s ≡ 0 → ⊥) where
   -- one record
   module _ (h : Hold) (hs : List Hold) (w : well_formed h ≡ true) (p : Payment) where
-    pay_other : is_of s h ≡ false → pay s c (keys_of (h ∷ hs)) (some p) ≡ pay s c (keys_of hs) (some p)
+    pay_other : is_of s h ≡ false → pay s c (keys_of (h ∷ hs)) (Some p) ≡ pay s c (keys_of hs) (Some p)
     unfolding pay
-    pay_other e = ap (λ (t : Bool). pay s c (keys_of hs) (cond t (pay_one c (quota_of (key_of h)) (some p)) (some p))) (key_is_of h w s live ∙ e)
+    pay_other e = ap (λ (t : Bool). pay s c (keys_of hs) (cond t (pay_one c (quota_of (key_of h)) (Some p)) (Some p))) (key_is_of h w s live ∙ e)
 
-    pay_own : is_of s h ≡ true → pay s c (keys_of (h ∷ hs)) (some p) ≡ pay s c (keys_of hs) (cond (cannot_pay c h.quota p) none (some (pays c h.quota p)))
+    pay_own : is_of s h ≡ true → pay s c (keys_of (h ∷ hs)) (Some p) ≡ pay s c (keys_of hs) (cond (cannot_pay c h.quota p) None (Some (pays c h.quota p)))
     unfolding pay pay_one
     pay_own e =
-        ap (λ (t : Bool). pay s c (keys_of hs) (cond t (pay_one c (quota_of (key_of h)) (some p)) (some p))) (key_is_of h w s live ∙ e)
-        ∙ ap (λ (x : ℕ). pay s c (keys_of hs) (pay_one c x (some p))) (key_quota h.serial h.quota (well_quota h w))
+        ap (λ (t : Bool). pay s c (keys_of hs) (cond t (pay_one c (quota_of (key_of h)) (Some p)) (Some p))) (key_is_of h w s live ∙ e)
+        ∙ ap (λ (x : ℕ). pay s c (keys_of hs) (pay_one c x (Some p))) (key_quota h.serial h.quota (well_quota h w))
 
     settles_other : (p' : Payment) → is_of s h ≡ false → Settles s c hs p p' → Settles s c (h ∷ hs) p p'
     unfolding once_for
@@ -97,7 +98,7 @@ module _ (s c : ℕ) (live : s ≡ 0 → ⊥) where
     pays_long l = (simp length-set l.0, simp length-set l.1)
 
   -- what a payment that succeeds says
-  pub pay_settles : (hs : List Hold) → all well_formed hs ≡ true → (p p' : Payment) → Long p → pay s c (keys_of hs) (some p) ≡ some p' → Settles s c hs p p'
+  pub pay_settles : (hs : List Hold) → all well_formed hs ≡ true → (p p' : Payment) → Long p → pay s c (keys_of hs) (Some p) ≡ Some p' → Settles s c hs p p'
   unfolding pay once_for all has_record any
   pay_settles [] w p p' long e =
       let x : p ≡ p' = cc in
@@ -113,13 +114,13 @@ module _ (s c : ℕ) (live : s ≡ 0 → ⊥) where
       by_test (is_of s h)
       (λ t.
       by_test (cannot_pay c h.quota p)
-      (λ u. absurd (none-ne-some p' (sym (pay_none s c (keys_of hs)) ∙ (rw u at (sym (pay_own h hs v p t) ∙ e)))))
+      (λ u. absurd (none-some p' (sym (pay_none s c (keys_of hs)) ∙ (rw u at (sym (pay_own h hs v p t) ∙ e)))))
       (λ u. settles_own h hs v p p' long t u (pay_settles hs vs (pays c h.quota p) p' (pays_long h hs v p long) (rw u at (sym (pay_own h hs v p t) ∙ e)))))
       (λ t. settles_other h hs v p p' t (pay_settles hs vs p p' long (sym (pay_other h hs v p t) ∙ e)))
 
   -- and a payment that can succeed does
   pub can_settle : (hs : List Hold) → all well_formed hs ≡ true → (p : Payment) → once_for s hs ≡ true → Can s c hs p
-      → (p' : Payment) × (pay s c (keys_of hs) (some p) ≡ some p')
+      → (p' : Payment) × (pay s c (keys_of hs) (Some p) ≡ Some p')
   unfolding pay once_for all
   can_settle [] w p o f = (p, refl)
   can_settle (h ∷ hs) w p o f =

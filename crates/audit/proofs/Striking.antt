@@ -1,9 +1,9 @@
 -- Striking and paying, key by key: what one key does, what is leapt over, and what striking leaves.
+use Rattle.std.specs.Prelude.{Option, Some, None}
 use Prim.Native.Nat.{ℕ, zero, suc, ◌+◌, ◌<◌, ◌≤◌}
 use mathlib.Core.Path.{◌≡◌, refl, ap, sym, ◌∙◌}
 use mathlib.Core.Bool.{Bool, true, false, not, cond}
 use mathlib.Core.List.{List, [], ◌∷◌}
-use mathlib.Core.Option.{Option, none, some}
 use native.Mathlib.Omega.{arith}
 use borrow.Author.Tests.{eq-eqb, ne_eqb, eqb-true, lt-ltb, le-ltb, ltb-false, not-false}
 use lib.Dec.{eqb, ltb}
@@ -17,12 +17,12 @@ pub zero_not : (s : ℕ) → (s ≡ 0 → ⊥) → for_serial s 0 ≡ false
 zero_not s live = ne_eqb 0 s (λ e. live (sym e))
 
 -- a payment that has failed stays so
-pub pay_none : (s c : ℕ) (ks : List ℕ) → pay s c ks none ≡ none
+pub pay_none : (s c : ℕ) (ks : List ℕ) → pay s c ks None ≡ None
 unfolding pay pay_one
 pay_none s c [] = refl
 pay_none s c (k ∷ ks) = go (for_serial s k) (pay_none s c ks)
   where
-    go : (t : Bool) → pay s c ks none ≡ none → pay s c ks (cond t none none) ≡ none
+    go : (t : Bool) → pay s c ks None ≡ None → pay s c ks (cond t None None) ≡ None
     go true e = e
     go false e = e
 
@@ -68,14 +68,14 @@ module _ (s c : ℕ) (ks : List ℕ) (p : Option Payment) where
 
 -- a key of the serial: its quota pays, or cannot
 module _ (s c : ℕ) (ks : List ℕ) (p : Payment) (i : ℕ) (l : i < length ks) (e : for_serial s (get_or ks i 0) ≡ true) where
-  pub pay_fails : cannot_pay c (quota_of (get_or ks i 0)) p ≡ true → pay s c (drop i ks) (some p) ≡ none
+  pub pay_fails : cannot_pay c (quota_of (get_or ks i 0)) p ≡ true → pay s c (drop i ks) (Some p) ≡ None
   unfolding pay_one
-  pay_fails t = pay_at s c ks (some p) i l ∙ rw (e, t) (pay_none s c (drop (suc i) ks))
+  pay_fails t = pay_at s c ks (Some p) i l ∙ rw (e, t) (pay_none s c (drop (suc i) ks))
 
   pub pay_hit : cannot_pay c (quota_of (get_or ks i 0)) p ≡ false
-      → pay s c (drop i ks) (some p) ≡ pay s c (drop (suc i) ks) (some (pays c (quota_of (get_or ks i 0)) p))
+      → pay s c (drop i ks) (Some p) ≡ pay s c (drop (suc i) ks) (Some (pays c (quota_of (get_or ks i 0)) p))
   unfolding pay_one
-  pay_hit t = pay_at s c ks (some p) i l ∙ rw (e, t)
+  pay_hit t = pay_at s c ks (Some p) i l ∙ rw (e, t)
 
 module _ (s : ℕ) (live : s ≡ 0 → ⊥) where
   -- a key that is struck at once, and not with the others

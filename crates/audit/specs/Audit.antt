@@ -1,7 +1,6 @@
 -- The audit of a heap's blocks against the hold records, block by block: each live block strikes the keys of its serial, and the quotas of
 -- these keys pay for it. At the end every key is struck, and no quota owes anything.
-use Rattle.std.specs.Prelude.{ℕ, ◌-◌, List, [], ◌∷◌, map, Bool, true, false, not, cond, ◌&&◌, leb, eqb}
-use Rattle.std.proofs.Math.Option.{Option, none, some}
+use Rattle.std.specs.Prelude.{ℕ, ◌-◌, List, [], ◌∷◌, map, Bool, true, false, not, cond, ◌&&◌, leb, eqb, Option, Some, None}
 use Rattle.accounts.specs.declared.Quota.{Quota}
 use Rattle.accounts.specs.declared.Accounts.{Accounts}
 use Rattle.accounts.specs.Accounts.{permissible}
@@ -39,22 +38,22 @@ behind serial keys owed = record { free = eqb serial 0; keys = keys; owed = owed
 
 -- a free block does not stand behind a free block
 unfoldable pub visit_free : State → Option State
-visit_free t = cond t.free none (some (record { free = true; keys = t.keys; owed = t.owed }))
+visit_free t = cond t.free None (Some (record { free = true; keys = t.keys; owed = t.owed }))
 
 -- what is left once a live block is paid for
 unfoldable pub settled : List ℕ → Option Payment → Option State
-settled keys none = none
-settled keys (some p) = some (record { free = false; keys = keys; owed = p.owed })
+settled keys None = None
+settled keys (Some p) = Some (record { free = false; keys = keys; owed = p.owed })
 
 -- a live block is at least 16 bytes long, its serial is at most the last serial, it has a record, and the quotas pay for it
 unfoldable pub visit_live : ℕ → ℕ → ℕ → State → Option State
 visit_live last serial size t =
     cond (leb 16 size && (leb serial last && not (eqb (struck serial t.keys) 0)))
-    (settled (strike serial t.keys) (pay serial size t.keys (some (unpaid t.owed)))) none
+    (settled (strike serial t.keys) (pay serial size t.keys (Some (unpaid t.owed)))) None
 
 -- a quarantined block is at least 16 bytes long; it strikes nothing, and nobody pays for it
 unfoldable pub visit_quarantined : ℕ → State → Option State
-visit_quarantined size t = cond (leb 16 size) (some (record { free = false; keys = t.keys; owed = t.owed })) none
+visit_quarantined size t = cond (leb 16 size) (Some (record { free = false; keys = t.keys; owed = t.owed })) None
 
 -- a block with this serial and size; none where it is not as it must be
 unfoldable pub visit : ℕ → ℕ → ℕ → State → Option State
@@ -62,19 +61,19 @@ visit last serial size t = cond (eqb serial 0) (visit_free t) (cond (eqb serial 
 
 -- the blocks one after the other, from a state on
 unfoldable pub audit : ℕ → List Block → Option State → Bool
-audit last [] none = false
-audit last [] (some t) = all_zero t.keys && all_zero t.owed
-audit last (b ∷ bs) none = false
-audit last (b ∷ bs) (some t) = audit last bs (visit last b.serial (size b) t)
+audit last [] None = false
+audit last [] (Some t) = all_zero t.keys && all_zero t.owed
+audit last (b ∷ bs) None = false
+audit last (b ∷ bs) (Some t) = audit last bs (visit last b.serial (size b) t)
 
 -- a heap that is not cut into blocks fails
 unfoldable pub audit_parsed : ℕ → Option (List Block) → Option State → Bool
-audit_parsed last none t = false
-audit_parsed last (some bs) t = audit last bs t
+audit_parsed last None t = false
+audit_parsed last (Some bs) t = audit last bs t
 
 -- the records are well-formed, no remainder is above its grant, and the blocks pass
 unfoldable pub audited : Option (List Block) → Accounts → Bool
 audited bs k =
     all well_formed k.holds
     && (all solvent k.quotas
-    && audit_parsed k.last_serial bs (some (begin (keys_of k.holds) (map owes k.quotas))))
+    && audit_parsed k.last_serial bs (Some (begin (keys_of k.holds) (map owes k.quotas))))

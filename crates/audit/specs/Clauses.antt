@@ -1,6 +1,5 @@
 -- What the debts of quotas and the settlement of a live block promise.
-use Rattle.std.specs.Prelude.{ℕ, ◌-◌, ◌<◌, ◌≤◌, ◌≡◌, List, map, Bool, true, false, ◌⊎◌, length, get_or, set}
-use Rattle.std.proofs.Math.Option.{none, some}
+use Rattle.std.specs.Prelude.{ℕ, ◌-◌, ◌<◌, ◌≤◌, ◌≡◌, List, map, Bool, true, false, ◌⊎◌, length, get_or, set, Some, None}
 use Rattle.accounts.specs.declared.Quota.{Quota}
 use Rattle.accounts.specs.Accounts.{QUOTAS}
 use Rattle.lists.specs.Lists.{all}
@@ -19,13 +18,13 @@ Charged charge q owed false owed' = get_or owed q 0 < charge
 -- the settlement of a serial leaves the other keys, and what is owed once those of the serial are paid for
 pub record Left (serial charge : ℕ) (keys : List ℕ) (p : Payment) (keys' owed' : List ℕ) : Type 0 where
   pub struck_all : keys' ≡ strike serial keys
-  pub rest : settled (strike serial keys) (pay serial charge keys (some p)) ≡ some (begin keys' owed')
+  pub rest : settled (strike serial keys) (pay serial charge keys (Some p)) ≡ Some (begin keys' owed')
   pub owed_long : length owed' ≡ QUOTAS
 
 -- or a quota cannot pay
 abbrev pub Paid : ℕ → ℕ → List ℕ → Payment → Bool → List ℕ → List ℕ → Type 0
 Paid serial charge keys p true keys' owed' = Left serial charge keys p keys' owed'
-Paid serial charge keys p false keys' owed' = pay serial charge keys (some p) ≡ none
+Paid serial charge keys p false keys' owed' = pay serial charge keys (Some p) ≡ None
 
 -- where no quota has paid yet: there is a key, or none
 abbrev pub Settled : ℕ → ℕ → List ℕ → List ℕ → Bool → List ℕ → List ℕ → Type 0

@@ -1,6 +1,5 @@
 -- Whether every object has a base and a length that are multiples of its unit, and quarantined blocks stand in the second kind only, block by block.
-use Rattle.std.specs.Prelude.{ℕ, ◌-◌, List, Bool, false, cond, ◌&&◌, ◌||◌, eqb}
-use Rattle.std.proofs.Math.Option.{Option, none, some}
+use Rattle.std.specs.Prelude.{ℕ, ◌-◌, List, Bool, false, cond, ◌&&◌, ◌||◌, eqb, Option, Some, None}
 use Rattle.layout.specs.Blocks.{Block, QUARANTINED}
 use Rattle.lists.specs.Lists.{all}
 use Rattle.model.specs.Objects.{objects_from}
@@ -12,5 +11,5 @@ fits_block unit kind serial size end = eqb serial 0 || cond (eqb serial QUARANTI
 
 -- every block is so, where the first starts at a place; a heap that is not cut into blocks fails
 unfoldable pub fitting : (ℕ → ℕ) → ℕ → ℕ → Option (List Block) → Bool
-fitting unit kind at none = false
-fitting unit kind at (some bs) = all (in_units unit) (objects_from at bs) && all (in_kind kind) bs
+fitting unit kind at None = false
+fitting unit kind at (Some bs) = all (in_units unit) (objects_from at bs) && all (in_kind kind) bs

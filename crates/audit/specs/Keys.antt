@@ -1,6 +1,6 @@
 -- Hold records as keys: a record's serial and quota as one number, 0 for an unused record. A key that a live block strikes becomes 0.
-use Rattle.std.specs.Prelude.{ℕ, suc, ◌+◌, ◌-◌, ◌*◌, ◌/◌, ◌%◌, List, [], ◌∷◌, map, Bool, not, cond, ◌&&◌, ◌||◌, get_or, set, replicate, ltb, leb, eqb}
-use Rattle.std.proofs.Math.Option.{Option, none, some}
+use Rattle.std.specs.Prelude.{ℕ, suc, ◌+◌, ◌-◌, ◌*◌, ◌/◌, ◌%◌, List, [], ◌∷◌, map, Bool, not, cond, ◌&&◌, ◌||◌}
+use Rattle.std.specs.Prelude.{get_or, set, replicate, ltb, leb, eqb, Option, Some, None}
 use Rattle.accounts.specs.declared.Hold.{Hold}
 use Rattle.accounts.specs.Accounts.{QUOTAS, used}
 
@@ -47,8 +47,8 @@ abbrev pub pays : ℕ → ℕ → Payment → Payment
 pays charge q p = record { seen = set p.seen q 1; owed = set p.owed q (get_or p.owed q 0 - charge) }
 
 unfoldable pub pay_one : ℕ → ℕ → Option Payment → Option Payment
-pay_one charge q none = none
-pay_one charge q (some p) = cond (cannot_pay charge q p) none (some (pays charge q p))
+pay_one charge q None = None
+pay_one charge q (Some p) = cond (cannot_pay charge q p) None (Some (pays charge q p))
 
 -- the quota of each key of a serial pays; none where one cannot
 unfoldable pub pay : ℕ → ℕ → List ℕ → Option Payment → Option Payment

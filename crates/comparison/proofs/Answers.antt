@@ -3,12 +3,12 @@ use mathlib.Core.Path.{◌≡◌, refl, ap, sym, ◌∙◌}
 use mathlib.Core.List.{List, [], ◌∷◌}
 use mathlib.Core.Bool.{Bool, true, false}
 use mathlib.Core.Logic.{◌↔◌, ◌≢◌}
-use mathlib.Core.Option.{Option, none, some, some-ne-none}
 use Prim.Native.Nat.{ℕ, zero, suc, ◌≤◌}
 use native.Mathlib.Omega.{arith}
-use lib.ListN.{length, get_elem?}
+use lib.ListN.{length}
 use lib.Dec.{eqb}
 use borrow.Author.Tests.{eqb-true, eqb-false, eq-eqb, ne_eqb}
+use Rattle.std.proofs.lemmas.Option.{none-some}
 use Rattle.layout.specs.Bytes.{Octets}
 use Rattle.model.specs.Refusals.{first_refusal}
 use Rattle.framing.specs.Frames.{frames_for}
@@ -31,13 +31,8 @@ use Rattle.comparison.specs.Listing.{OneSize}
 use Rattle.comparison.specs.declared.Difference.{Difference}
 use Rattle.comparison.specs.declared.Which.{Which}
 use Rattle.comparison.specs.declared.Which.TheVariants.{First, Second, Neither}
-use Rattle.comparison.specs.declared.CompareAnswer.{CompareAnswer}
-use Rattle.comparison.specs.declared.CompareAnswer.TheVariants.{Differs, Nothing, Refused}
-use Rattle.comparison.specs.declared.Step.{Step}
-use Rattle.comparison.specs.declared.Step.TheVariants.{Differs as StepDiffers, Nothing as NoStep}
-use Rattle.comparison.specs.declared.NextAnswer.{NextAnswer}
-use Rattle.comparison.specs.declared.NextAnswer.TheVariants.{Differs as NextDiffers, Nothing as NoNext}
-use Rattle.comparison.specs.declared.NextAnswer.TheVariants.{Refused as NextRefused}
+use Rattle.std.specs.Prelude.{Option, Some, None, Result, Ok, Err, slice_get}
+use Rattle.comparison.specs.declared.Position.{Position}
 use Rattle.comparison.proofs.Differences.{differences_self, differences_empty}
 
 -- an image that is accepted alone
@@ -46,24 +41,24 @@ Accepted i = first_refusal (examine_lines i) ≡ 0
 
 module _ (i j : List ℕ) (n : ℕ) where
   -- a bad first image decides, whatever the second is
-  pub first_refused : (r : ℕ) → first_refusal (examine_lines i) ≡ suc r → compare_of i j n ≡ record { refusal = suc r; which = First; found = none }
+  pub first_refused : (r : ℕ) → first_refusal (examine_lines i) ≡ suc r → compare_of i j n ≡ record { refusal = suc r; which = First; found = None }
   unfolding compare_of why_not why_second why_both first_why nth_of unless_refused
   first_refused r e = rw e
 
   pub second_refused : Accepted i → (r : ℕ) → first_refusal (examine_lines j) ≡ suc r
-      → compare_of i j n ≡ record { refusal = suc r; which = Second; found = none }
+      → compare_of i j n ≡ record { refusal = suc r; which = Second; found = None }
   unfolding compare_of why_not why_second why_both first_why nth_of unless_refused
   second_refused a r e = rw (a, e)
 
   module _ (a : Accepted i) (b : Accepted j) where
     -- then the forms
-    pub forms_refused : (form_of i).number ≢ (form_of j).number → compare_of i j n ≡ record { refusal = 29; which = Neither; found = none }
+    pub forms_refused : (form_of i).number ≢ (form_of j).number → compare_of i j n ≡ record { refusal = 29; which = Neither; found = None }
     unfolding compare_of why_not why_second why_both first_why nth_of unless_refused line_29 pair_lines first_refusal
     forms_refused d = let t = ne_eqb (form_of i).number (form_of j).number d in rw (a, b, t)
 
     module _ (form : (form_of i).number ≡ (form_of j).number) where
       -- then the heaps' lengths
-      pub lengths_refused : size_in i ≢ size_in j → compare_of i j n ≡ record { refusal = 27; which = Neither; found = none }
+      pub lengths_refused : size_in i ≢ size_in j → compare_of i j n ≡ record { refusal = 27; which = Neither; found = None }
       unfolding compare_of why_not why_second why_both first_why nth_of unless_refused
           line_29 line_27 pair_lines first_refusal
       lengths_refused d =
@@ -73,7 +68,7 @@ module _ (i j : List ℕ) (n : ℕ) where
 
       -- else the n-th is given, or none
       pub nth_given : size_in i ≡ size_in j
-          → compare_of i j n ≡ record { refusal = 0; which = Neither; found = get_elem? (differences (state_in i) (state_in j)) n }
+          → compare_of i j n ≡ record { refusal = 0; which = Neither; found = slice_get (differences (state_in i) (state_in j)) n }
       unfolding compare_of why_not why_second why_both first_why nth_of unless_refused
           line_29 line_27 pair_lines first_refusal
       nth_given e =
@@ -82,56 +77,51 @@ module _ (i j : List ℕ) (n : ℕ) where
           rw (a, b, f, t)
 
 -- no two answers come to the same: from what an answer comes to, the answer
-found_answer : Option Difference → CompareAnswer
-found_answer none = Nothing
-found_answer (some d) = Differs d
+found_answer : Option Difference → Option Difference
+found_answer None = None
+found_answer (Some d) = Some d
 
-answer_from : ℕ → Which → Option Difference → CompareAnswer
-answer_from zero w o = found_answer o
-answer_from (suc n) w o = Refused (image_refusal_at (suc n)) w
+answer_from : ℕ → Which → Option Difference → Result (Option Difference) (ImageRefusal × Which)
+answer_from zero w o = Ok (found_answer o)
+answer_from (suc n) w o = Err (image_refusal_at (suc n), w)
 
-abbrev answer_of : Compared → CompareAnswer
+abbrev answer_of : Compared → Result (Option Difference) (ImageRefusal × Which)
 answer_of c = answer_from c.refusal c.which c.found
 
-refused_back : (n : ℕ) (r : ImageRefusal) (w : Which) → image_refusal_number r ≡ n → 1 ≤ n → image_refusal_at n ≡ r → answer_from n w none ≡ Refused r w
+refused_back : (n : ℕ) (r : ImageRefusal) (w : Which) → image_refusal_number r ≡ n → 1 ≤ n → image_refusal_at n ≡ r → answer_from n w None ≡ Err (r, w)
 unfolding answer_from
 refused_back zero r w e l q = absurd (omega arith)
-refused_back (suc n) r w e l q = ap (λ (t : ImageRefusal). Refused t w) q
+refused_back (suc n) r w e l q = ap (λ (t : ImageRefusal). Err (t, w)) q
 
-answer_back : (a : CompareAnswer) → answer_of (compared a) ≡ a
+answer_back : (a : Result (Option Difference) (ImageRefusal × Which)) → answer_of (compared a) ≡ a
 unfolding compared answer_from found_answer
-answer_back (Differs d) = refl
-answer_back Nothing = refl
-answer_back (Refused r w) = let q = image_refusal_is r in refused_back (image_refusal_number r) r w refl q.1 q.0
+answer_back (Ok (Some d)) = refl
+answer_back (Ok None) = refl
+answer_back (Err (r, w)) = let q = image_refusal_is r in refused_back (image_refusal_number r) r w refl q.1 q.0
 
-pub compared_injective : (a b : CompareAnswer) → compared a ≡ compared b → a ≡ b
+pub compared_injective : (a b : Result (Option Difference) (ImageRefusal × Which)) → compared a ≡ compared b → a ≡ b
 compared_injective a b e = sym (answer_back a) ∙ ap answer_of e ∙ answer_back b
 
 -- nor two answers of the next difference
-step_answer : Step → NextAnswer
-step_answer (StepDiffers d p) = NextDiffers d p
-step_answer NoStep = NoNext
+next_from : ℕ → Which → Option (Difference × Position) → Result (Option (Difference × Position)) (ImageRefusal × Which)
+next_from zero w s = Ok s
+next_from (suc n) w s = Err (image_refusal_at (suc n), w)
 
-next_from : ℕ → Which → Step → NextAnswer
-next_from zero w s = step_answer s
-next_from (suc n) w s = NextRefused (image_refusal_at (suc n)) w
-
-abbrev next_answer_of : Advanced → NextAnswer
+abbrev next_answer_of : Advanced → Result (Option (Difference × Position)) (ImageRefusal × Which)
 next_answer_of c = next_from c.refusal c.which c.step
 
 next_refused_back : (n : ℕ) (r : ImageRefusal) (w : Which) → 1 ≤ n → image_refusal_at n ≡ r
-    → next_from n w NoStep ≡ NextRefused r w
+    → next_from n w None ≡ Err (r, w)
 unfolding next_from
 next_refused_back zero r w l q = absurd (omega arith)
-next_refused_back (suc n) r w l q = ap (λ (t : ImageRefusal). NextRefused t w) q
+next_refused_back (suc n) r w l q = ap (λ (t : ImageRefusal). Err (t, w)) q
 
-next_back : (a : NextAnswer) → next_answer_of (advanced a) ≡ a
-unfolding advanced stepped next_from step_answer
-next_back (NextDiffers d p) = refl
-next_back NoNext = refl
-next_back (NextRefused r w) = let q = image_refusal_is r in next_refused_back (image_refusal_number r) r w q.1 q.0
+next_back : (a : Result (Option (Difference × Position)) (ImageRefusal × Which)) → next_answer_of (advanced a) ≡ a
+unfolding advanced stepped next_from
+next_back (Ok s) = refl
+next_back (Err (r, w)) = let q = image_refusal_is r in next_refused_back (image_refusal_number r) r w q.1 q.0
 
-pub advanced_injective : (a b : NextAnswer) → advanced a ≡ advanced b → a ≡ b
+pub advanced_injective : (a b : Result (Option (Difference × Position)) (ImageRefusal × Which)) → advanced a ≡ advanced b → a ≡ b
 advanced_injective a b e = sym (next_back a) ∙ ap next_answer_of e ∙ next_back b
 
 -- an accepted image is the image of what it says
@@ -206,21 +196,21 @@ compared_exactly i j n = (there, λ w. ap refusal_of (nth_given i j n w.0 w.1 w.
         (a, b, f, fourth e a b f (eqb (size_in i) (size_in j)) refl)
 
 -- asked for the first difference of two images, the answer is that there is none exactly if the first is accepted and the second is the same bytes
-pub nothing_exactly : (i j : List ℕ) → Octets i → Octets j → (compare_of i j 0 ≡ compared Nothing) ↔ (Accepted i × (i ≡ j))
+pub nothing_exactly : (i j : List ℕ) → Octets i → Octets j → (compare_of i j 0 ≡ compared (Ok None)) ↔ (Accepted i × (i ≡ j))
 unfolding compared
 nothing_exactly i j o p = (there, back)
   where
-    empty : (xs : List Difference) → get_elem? xs 0 ≡ none → xs ≡ []
+    empty : (xs : List Difference) → slice_get xs 0 ≡ None → xs ≡ []
     empty [] e = refl
-    empty (x ∷ xs) e = absurd (some-ne-none x e)
+    empty (x ∷ xs) e = absurd (none-some x (sym e))
 
-    there : compare_of i j 0 ≡ record { refusal = 0; which = Neither; found = none } → Accepted i × (i ≡ j)
+    there : compare_of i j 0 ≡ record { refusal = 0; which = Neither; found = None } → Accepted i × (i ≡ j)
     there e =
         let w = (compared_exactly i j 0).0 (ap (λ (c : Compared). c.refusal) e) in
         let g = ap (λ (c : Compared). c.found) (sym (nth_given i j 0 w.0 w.1 w.2 w.3) ∙ e) in
         (w.0, (images_alike i j o p w.0 w.1 w.2 w.3).0 (empty (differences (state_in i) (state_in j)) g))
 
-    back : Accepted i × (i ≡ j) → compare_of i j 0 ≡ record { refusal = 0; which = Neither; found = none }
+    back : Accepted i × (i ≡ j) → compare_of i j 0 ≡ record { refusal = 0; which = Neither; found = None }
     back w =
         let b : Accepted j = rw w.1 at w.0 in
         nth_given i j 0 w.0 b (ap (λ (x : List ℕ). (form_of x).number) w.1) (ap size_in w.1) ∙ (rw (w.1, differences_self (state_in j)))

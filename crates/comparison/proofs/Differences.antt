@@ -1,16 +1,16 @@
 -- The list of differences: what is in it differs and what differs is in it, it is in order and has nothing twice, and there is nothing in it if and only if
 -- the states are equal.
 -- Each part is judged by its own laws; a difference tells by its part where in the list it can be.
+use Rattle.std.specs.Prelude.{Some, slice_get}
 use mathlib.Core.Path.{◌≡◌, refl, ap}
 use mathlib.Core.List.Memᴰ
 use mathlib.Core.List.{List, [], ◌∷◌, ◌++◌, map, Memᴰ}
 use mathlib.Core.Bool.{Bool, true, false, cond}
 use mathlib.Core.Logic.{inr, ⊎_elim, ◌↔◌, ◌≢◌}
-use mathlib.Core.Option.{some}
 use Prim.Native.Nat.{ℕ, suc, ◌+◌, ◌≤◌, ◌<◌}
 use native.Mathlib.Nat.{lt_of_not-le}
 use native.Mathlib.Omega.{arith}
-use lib.ListN.{length, get_or, get_elem?}
+use lib.ListN.{length, get_or}
 use lib.Seq.{ext_get_or}
 use lib.Dec.{eqb}
 use borrow.Author.Tests.{eqb-true, eqb-false, eq-eqb}
@@ -191,10 +191,10 @@ module _ (a b : State) where
       (parts_rise 0 serials settings (number_in LastSerial a.accounts.last_serial b.accounts.last_serial) settings_above)
 
   -- asked for two, the one with the lower number comes before the other; so nothing is listed twice
-  pub in_order : (m n : ℕ) (d e : Difference) → m < n → get_elem? (differences a b) m ≡ some d → get_elem? (differences a b) n ≡ some e → Before d e
+  pub in_order : (m n : ℕ) (d e : Difference) → m < n → slice_get (differences a b) m ≡ Some d → slice_get (differences a b) n ≡ Some e → Before d e
   in_order = sorted_places (differences a b) sorted
 
-  pub listed_once : (m n : ℕ) (d : Difference) → get_elem? (differences a b) m ≡ some d → get_elem? (differences a b) n ≡ some d → m ≡ n
+  pub listed_once : (m n : ℕ) (d : Difference) → slice_get (differences a b) m ≡ Some d → slice_get (differences a b) n ≡ Some d → m ≡ n
   listed_once m n d p q =
       let x : n < suc m = lt_of_not-le (λ l. not_before_itself d (in_order m n d d l p q)) in
       let y : m < suc n = lt_of_not-le (λ l. not_before_itself d (in_order n m d d l q p)) in

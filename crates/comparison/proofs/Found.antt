@@ -1,14 +1,14 @@
 -- What the searches find, put together as the first difference from a position on.
-use mathlib.Core.Path.{◌≡◌, refl, ap, sym, ◌∙◌}
+use mathlib.Core.Path.{◌≡◌, refl, ap, sym, ◌∙◌, subst}
 use mathlib.Core.List.{List, [], ◌∷◌, ◌++◌}
-use mathlib.Core.Bool.{Bool, beq, true, false, not, true≢false}
+use mathlib.Core.Bool.{Bool, true, false, true≢false}
 use Prim.Native.Nat.{ℕ, zero, suc, ◌+◌, ◌-◌, ◌≤◌, ◌<◌, min}
 use native.Mathlib.Nat.{lt_of_not-le}
 use native.Mathlib.Omega.{arith}
 use lib.ListN.{length, drop, get_or, length-append, length-drop}
 use lib.Seq.{get_or-drop}
-use lib.Dec.{eqb}
-use borrow.Author.Tests.{eqb-true, eqb-false, eq-eqb, ne_eqb}
+use lib.Dec.{leb}
+use borrow.Author.Tests.{eq-eqb, ne_eqb, leb-true, leb-false}
 use Rattle.accounts.specs.declared.Accounts.{Accounts}
 use Rattle.accounts.specs.Accounts.{QUOTAS, HOLDS, zero_quota, zero_hold}
 use Rattle.framing.specs.Frames.{padded, stream_of}
@@ -19,37 +19,15 @@ use Rattle.image_model.proofs.Places.{marks_keep, blank_lengths}
 use Rattle.image.proofs.Parses.{form_of_fits}
 use Rattle.comparison.specs.Differences.{state_in, same_quota, same_record, number_part, differing, quota_part, record_part, byte_part, differences}
 use Rattle.comparison.specs.Positions.{from_byte, from_record, from_quota, from_edition, from_kind, behind, first_of}
-use Rattle.comparison.specs.Finding.{same_byte, Reaches}
+use Rattle.comparison.specs.Finding.{same_byte, Reaches, Finds}
 use Rattle.comparison.specs.declared.Difference.{Difference}
 use Rattle.comparison.specs.declared.Difference.TheVariants.{LastSerial, Kind, Edition, Quota as QuotaAt, Record as RecordAt, Bytes}
 use Rattle.comparison.specs.declared.Position.TheVariants.{Kind as FromKind, Edition as FromEdition, Quota as FromQuota, Record as FromRecord, Byte}
-use Rattle.comparison.specs.declared.Step.TheVariants.{Differs, Nothing}
+use Rattle.std.specs.Prelude.{Option, Some, None, unwrap_or}
 use Rattle.comparison.proofs.Runs.{equal, end, RunFrom, first_run, no_runs}
-use Rattle.comparison.proofs.Items.{from_found, from_end}
+use Rattle.comparison.proofs.Items.{from_pass, from_found, from_end}
 use Rattle.comparison.proofs.Positions.{from_start}
 use Rattle.comparison.proofs.Answers.{heap_length}
-
--- two truth values are compared
-pub beq_true : (a b : Bool) → beq a b ≡ true → a ≡ b
-beq_true true true e = refl
-beq_true true false e = absurd (true≢false (sym e))
-beq_true false true e = absurd (true≢false (sym e))
-beq_true false false e = refl
-
-pub beq_false : (a b : Bool) → beq a b ≡ false → a ≡ not b
-beq_false true true e = absurd (true≢false e)
-beq_false true false e = refl
-beq_false false true e = refl
-beq_false false false e = absurd (true≢false e)
-
--- what holds of the places passed and of the next one holds up to behind it
-pub passed_more : (test : ℕ → Bool) (x : Bool) (at from : ℕ) → ((k : ℕ) → from ≤ k → k < at → test k ≡ x) → test at ≡ x
-    → (k : ℕ) → from ≤ k → k < at + 1 → test k ≡ x
-passed_more test x at from f e k l h = go (eqb k at) refl
-  where
-    go : (b : Bool) → eqb k at ≡ b → test k ≡ x
-    go true q = rw (eqb-true k at q) e
-    go false q = f k l (omega (arith, eqb-false k at q))
 
 -- the accounts that an image says have all their quotas and records
 module _ (i : List ℕ) where
@@ -80,18 +58,24 @@ pub heap_byte : (i : List ℕ) (k : ℕ) → k < size_in i → get_or (heap_in i
 unfolding heap_in heap_of size_in
 heap_byte i k l = get_or_padded (size_in i) k (drop (head_length (form_of i)) (stream_of i)) l ∙ get_or-drop (head_length (form_of i)) (stream_of i) k 0
 
--- the first run by two searches over a test that is that of the bytes
-module _ (s t : List ℕ) (test : ℕ → Bool) (tests : (k : ℕ) → k < end s t → test k ≡ equal s t k) (at r : ℕ) (w : Reaches test false at (end s t) r) where
-  none_found : end s t ≤ r → first_of (byte_part at (drop at s) (drop at t)) ≡ Nothing
-  unfolding byte_part first_of
-  none_found h = rw (no_runs s t at (λ k l m. sym (tests k m) ∙ w.before k l (omega arith)))
+-- what is found, or the end where nothing is
+pub reached : (test : ℕ → Bool) (wanted : Bool) (from end : ℕ) (o : Option ℕ) → from ≤ end → Finds test wanted from end o
+    → Reaches test wanted from end (unwrap_or o end)
+reached test wanted from end (Some r) l w = record { low = w.0; before = w.3; high = λ h. omega (arith, w.1); there = λ h. w.2 }
+reached test wanted from end None l w = record { low = l; before = w; high = λ h. omega arith; there = λ h. absurd (omega arith) }
 
-  module _ (inside : r < end s t) (z : ℕ) (v : Reaches test true r (end s t) z) where
+-- the first run by two searches over a test that is that of the bytes
+module _ (s t : List ℕ) (test : ℕ → Bool) (tests : (k : ℕ) → k < end s t → test k ≡ equal s t k) (at : ℕ) where
+  none_found : Finds test false at (end s t) None → first_of (byte_part at (drop at s) (drop at t)) ≡ None
+  unfolding byte_part first_of
+  none_found w = rw (no_runs s t at (λ k l m. sym (tests k m) ∙ w k l m))
+
+  module _ (r : ℕ) (w : Finds test false at (end s t) (Some r)) (z : ℕ) (v : Reaches test true r (end s t) z) where
     ends : z ≤ end s t
-    ends = v.high (omega arith)
+    ends = v.high (omega (arith, w.1))
 
     longer : r < z
-    longer = lt_of_not-le (λ h. let e : z ≡ r = omega (arith, v.low) in true≢false (sym (rw e at (v.there (omega arith))) ∙ w.there inside))
+    longer = lt_of_not-le (λ h. let e : z ≡ r = omega (arith, v.low) in true≢false (sym (rw e at (v.there (omega (arith, w.1)))) ∙ w.2))
 
     run_from : RunFrom s t at (record { offset = r; length = z - r })
     run_from =
@@ -99,15 +83,15 @@ module _ (s t : List ℕ) (test : ℕ → Bool) (tests : (k : ℕ) → k < end s
         let m = ends in
         let e : r + (z - r) ≡ z = omega arith in
         record {
-          low = w.low;
-          gap = λ k a b. sym (tests k (omega arith)) ∙ w.before k a b;
+          low = w.0;
+          gap = λ k a b. sym (tests k (omega arith)) ∙ w.3 k a b;
           some = omega arith;
           fits = omega arith;
           inside = λ k a b. sym (tests k (omega arith)) ∙ v.before k a (omega arith);
           stop = rw e (λ h. sym (tests z h) ∙ v.there h);
         }
 
-    run_found : first_of (byte_part at (drop at s) (drop at t)) ≡ Differs (Bytes r (z - r)) (Byte z)
+    run_found : first_of (byte_part at (drop at s) (drop at t)) ≡ Some (Bytes r (z - r), Byte z)
     unfolding byte_part first_of behind
     run_found =
         let l = longer in
@@ -129,30 +113,42 @@ module _ (i j : List ℕ) (x y e : ℕ) (one : x ≡ head_length (form_of i)) (t
       let b : k < size_in j = omega arith in
       rw (heap_byte i k a, heap_byte j k b, one, two)
 
-  pub bytes_none : (at r : ℕ) → Reaches test false at e r → e ≤ r → Nothing ≡ first_of (from_byte (state_in i) (state_in j) at)
+  pub bytes_none : (at : ℕ) → Finds test false at e None → None ≡ first_of (from_byte (state_in i) (state_in j) at)
   unfolding from_byte state_in
-  bytes_none at r w h = sym (none_found (heap_in i) (heap_in j) test tests at r (rw end_is at w) (rw end_is at h))
+  bytes_none at w = sym (none_found (heap_in i) (heap_in j) test tests at (rw end_is at w))
 
-  pub bytes_found : (at r z : ℕ) → Reaches test false at e r → r < e → Reaches test true r e z
-      → Differs (Bytes r (z - r)) (Byte z) ≡ first_of (from_byte (state_in i) (state_in j) at)
+  pub bytes_found : (at r : ℕ) (o : Option ℕ) → Finds test false at e (Some r) → Finds test true r e o
+      → let z = unwrap_or o e in
+      Some (Bytes r (z - r), Byte z) ≡ first_of (from_byte (state_in i) (state_in j) at)
   unfolding from_byte state_in
-  bytes_found at r z w h v = sym (run_found (heap_in i) (heap_in j) test tests at r (rw end_is at w) (rw end_is at h) z (rw end_is at v))
+  bytes_found at r o w v =
+      sym (run_found (heap_in i) (heap_in j) test tests at r (rw end_is at w) (unwrap_or o e)
+      (subst (λ (n : ℕ). Reaches test true r n (unwrap_or o e)) end_is (reached test true r e o (omega (arith, w.1)) v)))
+
+-- whether the items at a place of two lists are the same
+abbrev pub alike : {A : Type 0} → (A → A → Bool) → A → List A → List A → ℕ → Bool
+alike same d xs ys k = same (get_or xs k d) (get_or ys k d)
 
 -- the first item that is not the same, in front of what is behind the items
 module _ {A : Type 0} (same : A → A → Bool) (name : ℕ → Difference) (d : A) (n : ℕ) (xs ys : List A)
-    (long : length xs ≡ n) (long_2 : length ys ≡ n) (from at : ℕ)
-    (reached : differing same name from (drop from xs) (drop from ys) ≡ differing same name at (drop at xs) (drop at ys)) (rest : List Difference) where
-  pub item_found : at < n → same (get_or xs at d) (get_or ys at d) ≡ false
-      → Differs (name at) (behind (name at)) ≡ first_of (differing same name from (drop from xs) (drop from ys) ++ rest)
+    (long : length xs ≡ n) (long_2 : length ys ≡ n) (from : ℕ) (rest : List Difference) where
+  pub item_found : (at : ℕ) → Finds (alike same d xs ys) false from n (Some at)
+      → Some (name at, behind (name at)) ≡ first_of (differing same name from (drop from xs) (drop from ys) ++ rest)
   unfolding first_of
-  item_found l e = rw (reached, from_found same name d xs ys at (omega arith) e)
+  item_found at w =
+      rw (from_pass same name d xs ys from at w.0 (omega (arith, w.1)) w.3, from_found same name d xs ys at (omega (arith, w.1)) w.2)
 
-  pub items_none : n ≤ at → rest ≡ differing same name from (drop from xs) (drop from ys) ++ rest
-  items_none l = rw (reached, from_end same name d xs ys at (omega arith))
+  pub items_none : Finds (alike same d xs ys) false from n None → rest ≡ differing same name from (drop from xs) (drop from ys) ++ rest
+  items_none w = go (leb from n) refl
+    where
+      go : (x : Bool) → leb from n ≡ x → rest ≡ differing same name from (drop from xs) (drop from ys) ++ rest
+      go true q =
+          rw (from_pass same name d xs ys from n (leb-true from n q) (omega arith) w, from_end same name d xs ys n (omega arith))
+      go false q = let l : n ≤ from = omega (arith, leb-false from n q) in rw (from_end same name d xs ys from (omega arith))
 
 -- a number in front of what is behind it
 module _ (name : Difference) (x y : ℕ) (rest : List Difference) where
-  pub number_found : (x ≡ y → ⊥) → Differs name (behind name) ≡ first_of (number_part name x y ++ rest)
+  pub number_found : (x ≡ y → ⊥) → Some (name, behind name) ≡ first_of (number_part name x y ++ rest)
   unfolding number_part first_of
   number_found f = rw (ne_eqb x y f)
 
@@ -162,41 +158,40 @@ module _ (name : Difference) (x y : ℕ) (rest : List Difference) where
 
 -- the same of the accounts that two images say
 module _ (i j : List ℕ) (k l : Accounts) (one : k ≡ accounts_in i) (two : l ≡ accounts_in j) where
-  module _ (from at : ℕ)
-      (reached : quota_part from (drop from k.quotas) (drop from l.quotas) ≡ quota_part at (drop at k.quotas) (drop at l.quotas)) where
+  module _ (from : ℕ) where
     long : length k.quotas ≡ QUOTAS
     long = ap (λ (x : Accounts). length x.quotas) one ∙ quotas_long i
 
     long_2 : length l.quotas ≡ QUOTAS
     long_2 = ap (λ (x : Accounts). length x.quotas) two ∙ quotas_long j
 
-    pub quota_found : at < QUOTAS → same_quota (get_or k.quotas at zero_quota) (get_or l.quotas at zero_quota) ≡ false
-        → Differs (QuotaAt at) (FromQuota (at + 1)) ≡ first_of (from_quota (state_in i) (state_in j) from)
+    pub quota_found : (at : ℕ) → Finds (alike same_quota zero_quota k.quotas l.quotas) false from QUOTAS (Some at)
+        → Some (QuotaAt at, FromQuota (at + 1)) ≡ first_of (from_quota (state_in i) (state_in j) from)
     unfolding from_quota state_in quota_part behind
-    quota_found h e = rw (← one, ← two) (item_found same_quota QuotaAt zero_quota QUOTAS k.quotas l.quotas long long_2 from at reached _ h e)
+    quota_found at w = rw (← one, ← two) (item_found same_quota QuotaAt zero_quota QUOTAS k.quotas l.quotas long long_2 from _ at w)
 
-    pub quotas_none : QUOTAS ≤ at → first_of (from_record (state_in i) (state_in j) 0) ≡ first_of (from_quota (state_in i) (state_in j) from)
+    pub quotas_none : Finds (alike same_quota zero_quota k.quotas l.quotas) false from QUOTAS None
+        → first_of (from_record (state_in i) (state_in j) 0) ≡ first_of (from_quota (state_in i) (state_in j) from)
     unfolding from_quota state_in quota_part
-    quotas_none h = rw (← one, ← two) (ap first_of (items_none same_quota QuotaAt zero_quota QUOTAS k.quotas l.quotas long long_2 from at reached _ h))
+    quotas_none w = rw (← one, ← two) (ap first_of (items_none same_quota QuotaAt zero_quota QUOTAS k.quotas l.quotas long long_2 from _ w))
 
-  module _ (from at : ℕ)
-      (reached : record_part from (drop from k.holds) (drop from l.holds) ≡ record_part at (drop at k.holds) (drop at l.holds)) where
     holds_1 : length k.holds ≡ HOLDS
     holds_1 = ap (λ (x : Accounts). length x.holds) one ∙ holds_long i
 
     holds_2 : length l.holds ≡ HOLDS
     holds_2 = ap (λ (x : Accounts). length x.holds) two ∙ holds_long j
 
-    pub record_found : at < HOLDS → same_record (get_or k.holds at zero_hold) (get_or l.holds at zero_hold) ≡ false
-        → Differs (RecordAt at) (FromRecord (at + 1)) ≡ first_of (from_record (state_in i) (state_in j) from)
+    pub record_found : (at : ℕ) → Finds (alike same_record zero_hold k.holds l.holds) false from HOLDS (Some at)
+        → Some (RecordAt at, FromRecord (at + 1)) ≡ first_of (from_record (state_in i) (state_in j) from)
     unfolding from_record state_in record_part behind
-    record_found h e = rw (← one, ← two) (item_found same_record RecordAt zero_hold HOLDS k.holds l.holds holds_1 holds_2 from at reached _ h e)
+    record_found at w = rw (← one, ← two) (item_found same_record RecordAt zero_hold HOLDS k.holds l.holds holds_1 holds_2 from _ at w)
 
-    pub records_none : HOLDS ≤ at → first_of (from_byte (state_in i) (state_in j) 0) ≡ first_of (from_record (state_in i) (state_in j) from)
+    pub records_none : Finds (alike same_record zero_hold k.holds l.holds) false from HOLDS None
+        → first_of (from_byte (state_in i) (state_in j) 0) ≡ first_of (from_record (state_in i) (state_in j) from)
     unfolding from_record state_in record_part
-    records_none h = rw (← one, ← two) (ap first_of (items_none same_record RecordAt zero_hold HOLDS k.holds l.holds holds_1 holds_2 from at reached _ h))
+    records_none w = rw (← one, ← two) (ap first_of (items_none same_record RecordAt zero_hold HOLDS k.holds l.holds holds_1 holds_2 from _ w))
 
-  pub edition_differs : (k.edition ≡ l.edition → ⊥) → Differs Edition (FromQuota 0) ≡ first_of (from_edition (state_in i) (state_in j))
+  pub edition_differs : (k.edition ≡ l.edition → ⊥) → Some (Edition, FromQuota 0) ≡ first_of (from_edition (state_in i) (state_in j))
   unfolding state_in from_edition behind
   edition_differs f = rw (← one, ← two) (number_found Edition k.edition l.edition _ f)
 
@@ -204,7 +199,7 @@ module _ (i j : List ℕ) (k l : Accounts) (one : k ≡ accounts_in i) (two : l 
   unfolding state_in from_edition
   edition_same e = rw (← one, ← two) (ap first_of (number_same Edition k.edition l.edition _ e))
 
-  pub kind_differs : (k.kind ≡ l.kind → ⊥) → Differs Kind FromEdition ≡ first_of (from_kind (state_in i) (state_in j))
+  pub kind_differs : (k.kind ≡ l.kind → ⊥) → Some (Kind, FromEdition) ≡ first_of (from_kind (state_in i) (state_in j))
   unfolding state_in from_kind behind
   kind_differs f = rw (← one, ← two) (number_found Kind k.kind l.kind _ f)
 
@@ -212,7 +207,7 @@ module _ (i j : List ℕ) (k l : Accounts) (one : k ≡ accounts_in i) (two : l 
   unfolding state_in from_kind
   kind_same e = rw (← one, ← two) (ap first_of (number_same Kind k.kind l.kind _ e))
 
-  pub start_differs : (k.last_serial ≡ l.last_serial → ⊥) → Differs LastSerial FromKind ≡ first_of (differences (state_in i) (state_in j))
+  pub start_differs : (k.last_serial ≡ l.last_serial → ⊥) → Some (LastSerial, FromKind) ≡ first_of (differences (state_in i) (state_in j))
   unfolding state_in behind
   start_differs f =
       rw (from_start (state_in i) (state_in j), ← one, ← two) (number_found LastSerial k.last_serial l.last_serial _ f)

@@ -5,8 +5,8 @@ use mathlib.Core.List.Memᴰ
 use mathlib.Core.List.{List, [], ◌∷◌, Memᴰ}
 use mathlib.Core.Bool.{Bool, true, false, cond, true≢false}
 use mathlib.Core.Logic.{⊎_elim, ◌↔◌, ◌≢◌}
-use Prim.Native.Nat.{ℕ, zero, suc, ◌+◌, ◌≤◌, ◌<◌, min}
-use native.Mathlib.Nat.{lt_of_not-le}
+use Prim.Native.Nat.{ℕ, zero, suc, ◌+◌, ◌-◌, ◌≤◌, ◌<◌, min}
+use native.Mathlib.Nat.{lt_of_not-le, add-zero}
 use native.Mathlib.Numerals.{add-one}
 use native.Mathlib.Omega.{arith}
 use lib.ListN.{length, drop, get_or, drop_of_length-le, get_or-eq_default}
@@ -129,9 +129,19 @@ module _ {A : Type 0} (same : A → A → Bool) (name : ℕ → Difference) wher
     unfolding differing
     from_step n h b e = rw (drop-cons xs n d (omega arith), drop-cons ys n d (omega arith), e)
 
-    -- an item that is the same is passed; one that is not is the first
-    pub from_pass : (n : ℕ) → n < end → same (get_or xs n d) (get_or ys n d) ≡ true → from n ≡ from (n + 1)
-    from_pass n h e = from_step n h true e ∙ ap from (sym (add-one n))
+    -- items that are the same are passed; one that is not is the first
+    passed_by : (f n : ℕ) → n + f ≤ end → ((k : ℕ) → n ≤ k → k < n + f → same (get_or xs k d) (get_or ys k d) ≡ true) → from n ≡ from (n + f)
+    passed_by zero n h t = ap from (sym (add-zero n))
+    passed_by (suc f) n h t =
+        let z : suc n + f ≡ n + suc f = omega arith in
+        from_step n (omega arith) true (t n (omega arith) (omega arith))
+        ∙ passed_by f (suc n) (omega arith) (λ k l m. t k (omega arith) (omega arith))
+        ∙ ap from z
+
+    pub from_pass : (n m : ℕ) → n ≤ m → m ≤ end → ((k : ℕ) → n ≤ k → k < m → same (get_or xs k d) (get_or ys k d) ≡ true) → from n ≡ from m
+    from_pass n m l h t =
+        let z : n + (m - n) ≡ m = omega arith in
+        passed_by (m - n) n (omega arith) (λ k a b. t k a (omega arith)) ∙ ap from z
 
     pub from_found : (n : ℕ) → n < end → same (get_or xs n d) (get_or ys n d) ≡ false → from n ≡ name n ∷ from (n + 1)
     from_found n h e = from_step n h false e ∙ ap (λ (m : ℕ). name n ∷ from m) (sym (add-one n))

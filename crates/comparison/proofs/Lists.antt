@@ -1,13 +1,13 @@
 -- Lists of differences: members and the n-th, and what it says that each comes before all behind it. Each law is an induction on the list.
+use Rattle.std.specs.Prelude.{Some, slice_get}
 use mathlib.Core.Path.{◌≡◌, ap, sym}
 use mathlib.Core.List.Memᴰ
 use mathlib.Core.List.{List, [], ◌∷◌, ◌++◌, map, Memᴰ}
 use mathlib.Core.Logic.{inl, ⊎_elim}
-use mathlib.Core.Option.{some, none-ne-some, some-injective}
 use Prim.Native.Nat.{ℕ, zero, suc, ◌<◌}
 use native.Mathlib.Nat.{le_of_suc-le-suc, not-suc-le-zero}
 use native.Mathlib.Omega.{arith}
-use lib.ListN.{get_elem?}
+use Rattle.std.proofs.lemmas.Option.{none-some, same_Some}
 use Rattle.image_model.proofs.Items.{All, all_both}
 use Rattle.comparison.specs.Listing.{Before, part_of, start_of, stop_of}
 use Rattle.comparison.specs.declared.Difference.{Difference}
@@ -24,15 +24,15 @@ module _ {A : Type 0} where
   all_member P (y ∷ xs) a x m = ⊎_elim (λ e. rw e a.0) (λ i. all_member P xs a.1 x i) (Memᴰ.cases_cons m)
 
   -- what can be asked for is what is in the list
-  pub nth_member : (xs : List A) (n : ℕ) (x : A) → get_elem? xs n ≡ some x → Memᴰ x xs
-  nth_member [] n x e = absurd (none-ne-some x e)
-  nth_member (y ∷ xs) zero x e = Memᴰ.head (sym (some-injective y x e))
+  pub nth_member : (xs : List A) (n : ℕ) (x : A) → slice_get xs n ≡ Some x → Memᴰ x xs
+  nth_member [] n x e = absurd (none-some x e)
+  nth_member (y ∷ xs) zero x e = Memᴰ.head (sym (same_Some y x e))
   nth_member (y ∷ xs) (suc n) x e = Memᴰ.tail (nth_member xs n x e)
 
-  pub member_nth : (xs : List A) (x : A) → Memᴰ x xs → (n : ℕ) × (get_elem? xs n ≡ some x)
+  pub member_nth : (xs : List A) (x : A) → Memᴰ x xs → (n : ℕ) × (slice_get xs n ≡ Some x)
   member_nth [] x m = absurd (Memᴰ.not-nil m)
   member_nth (y ∷ xs) x m =
-      ⊎_elim (λ (e : x ≡ y). (0, ap some (sym e))) (λ i. let w = member_nth xs x i in (suc w.0, w.1)) (Memᴰ.cases_cons m)
+      ⊎_elim (λ (e : x ≡ y). (0, ap Some (sym e))) (λ i. let w = member_nth xs x i in (suc w.0, w.1)) (Memᴰ.cases_cons m)
 
 pub all_map : {A B : Type 0} (f : A → B) (P : B → Type 0) (xs : List A) → All (λ x. P (f x)) xs → All P (map f xs)
 all_map f P [] a = tt
@@ -58,10 +58,10 @@ parts_rise m xs ys a b =
     (λ x e. all_imply (λ y. m < part_of y) (Before x) (λ y l. inl (rw e l)) ys b) xs a
 
 -- by places: the earlier comes before the later
-pub sorted_places : (xs : List Difference) → Sorted xs → (m n : ℕ) (d e : Difference) → m < n → get_elem? xs m ≡ some d → get_elem? xs n ≡ some e → Before d e
-sorted_places [] w m n d e l p q = absurd (none-ne-some d p)
+pub sorted_places : (xs : List Difference) → Sorted xs → (m n : ℕ) (d e : Difference) → m < n → slice_get xs m ≡ Some d → slice_get xs n ≡ Some e → Before d e
+sorted_places [] w m n d e l p q = absurd (none-some d p)
 sorted_places (x ∷ xs) w m zero d e l p q = absurd (not-suc-le-zero l)
-sorted_places (x ∷ xs) w zero (suc n) d e l p q = rw (← (some-injective x d p)) (all_member (Before x) xs w.0 e (nth_member xs n e q))
+sorted_places (x ∷ xs) w zero (suc n) d e l p q = rw (← (same_Some x d p)) (all_member (Before x) xs w.0 e (nth_member xs n e q))
 sorted_places (x ∷ xs) w (suc m) (suc n) d e l p q = sorted_places xs w.1 m n d e (le_of_suc-le-suc l) p q
 
 -- none comes before itself

@@ -4,11 +4,10 @@ use mathlib.Core.Path.{◌≡◌, refl, ap, sym, ◌∙◌}
 use mathlib.Core.List.{List, [], ◌∷◌, ◌++◌, map}
 use mathlib.Core.Bool.{Bool, true, false, cond}
 use mathlib.Core.Logic.{◌⊎◌, inl, inr}
-use mathlib.Core.Option.{none, some}
 use Prim.Native.Nat.{ℕ, zero, suc, ◌-◌, ◌≤◌}
 use native.Mathlib.Numerals.{add-one}
 use native.Mathlib.Omega.{arith}
-use lib.ListN.{length, take, drop, get_elem?}
+use lib.ListN.{length, take, drop}
 use lib.Seq.{take_all}
 use lib.Dec.{eqb}
 use Rattle.accounts.specs.Accounts.{zero_quota, zero_hold}
@@ -20,7 +19,7 @@ use Rattle.comparison.specs.declared.Difference.{Difference}
 use Rattle.comparison.specs.declared.Difference.TheVariants.{LastSerial, Kind, Edition, Quota as QuotaAt, Record as RecordAt}
 use Rattle.comparison.specs.declared.Position.{Position}
 use Rattle.comparison.specs.declared.Position.TheVariants.{Start, Kind as FromKind, Edition as FromEdition, Quota, Record, Byte}
-use Rattle.comparison.specs.declared.Step.TheVariants.{Differs, Nothing}
+use Rattle.std.specs.Prelude.{Some, None, slice_get}
 use Rattle.comparison.proofs.Runs.{runs_go_on}
 use Rattle.comparison.proofs.Items.{items_go_on}
 
@@ -129,15 +128,15 @@ module _ (a b : State) where
   unfolding next_of
   answered p xs e = ap first_of e
 
-  pub next_nothing : (p : Position) → next_of p a b ≡ Nothing → (n : ℕ) → get_elem? (differences_from p a b) n ≡ none
+  pub next_nothing : (p : Position) → next_of p a b ≡ None → (n : ℕ) → slice_get (differences_from p a b) n ≡ None
   unfolding first_of
   next_nothing p e n = go (differences_from p a b) refl
     where
-      go : (xs : List Difference) → differences_from p a b ≡ xs → get_elem? (differences_from p a b) n ≡ none
+      go : (xs : List Difference) → differences_from p a b ≡ xs → slice_get (differences_from p a b) n ≡ None
       go [] q = rw q
       go (d ∷ ds) q = let z = answered p (d ∷ ds) q in let no : ◌≡◌ {A = ℕ} 0 1 = cc in absurd (omega arith)
 
-  module _ (p q : Position) (d : Difference) (e : next_of p a b ≡ Differs d q) where
+  module _ (p q : Position) (d : Difference) (e : next_of p a b ≡ Some (d, q)) where
     split : (ds : List Difference) × (differences_from p a b ≡ d ∷ ds) × (q ≡ behind d)
     unfolding first_of
     split = go (differences_from p a b) refl
@@ -146,18 +145,19 @@ module _ (a b : State) where
         go [] h = let z = answered p [] h in let no : ◌≡◌ {A = ℕ} 0 1 = cc in absurd (omega arith)
         go (f ∷ ds) h =
             let z = answered p (f ∷ ds) h in
-            let x : f ≡ d = cc in
-            let y : q ≡ behind f = cc in
+            let w : (d, q) ≡ (f, behind f) = cc in
+            let x : f ≡ d = sym (ap (λ (v : Difference × Position). v.0) w) in
+            let y : q ≡ behind f = ap (λ (v : Difference × Position). v.1) w in
             (ds, h ∙ ap (λ (g : Difference). g ∷ ds) x, y ∙ ap behind x)
 
-    pub next_first : get_elem? (differences_from p a b) 0 ≡ some d
+    pub next_first : slice_get (differences_from p a b) 0 ≡ Some d
     next_first = rw split.1
 
-    pub next_later : (n : ℕ) → (n ≡ 0 → ⊥) → get_elem? (differences_from p a b) n ≡ get_elem? (differences_from q a b) (n - 1)
+    pub next_later : (n : ℕ) → (n ≡ 0 → ⊥) → slice_get (differences_from p a b) n ≡ slice_get (differences_from q a b) (n - 1)
     next_later zero f = absurd (f refl)
     next_later (suc n) f =
         let w = split in
         let m : suc n - 1 ≡ n = omega arith in
         rw (w.1, m)
-        (ap (λ (l : List Difference). get_elem? l n) (sym (goes_on p d w.0 w.1))
-        ∙ ap (λ (x : Position). get_elem? (differences_from x a b) n) (sym w.2))
+        (ap (λ (l : List Difference). slice_get l n) (sym (goes_on p d w.0 w.1))
+        ∙ ap (λ (x : Position). slice_get (differences_from x a b) n) (sym w.2))

@@ -1,7 +1,6 @@
 -- The definitions computed: every kind of difference alone and all together, positions in each part, and two images with each refusal.
 use mathlib.Core.Path.{◌≡◌, refl}
 use mathlib.Core.List.{List, [], ◌∷◌, ◌++◌}
-use mathlib.Core.Option.{Option, none, some}
 use Prim.Native.Nat.{ℕ, ◌-◌}
 use lib.ListN.{set, replicate, take}
 use Rattle.accounts.specs.declared.Accounts.{Accounts}
@@ -16,10 +15,10 @@ use Rattle.comparison.specs.Positions.{next_of, asked}
 use Rattle.comparison.specs.Compare.{Compared, compare_of, Advanced, advance_of, walked}
 use Rattle.comparison.specs.declared.Difference.{Difference}
 use Rattle.comparison.specs.declared.Difference.TheVariants.{LastSerial, Kind, Edition, Quota as QuotaAt, Record as RecordAt, Bytes}
+use Rattle.comparison.specs.declared.Position.{Position}
 use Rattle.comparison.specs.declared.Position.TheVariants.{Start, Kind as FromKind, Edition as FromEdition}
 use Rattle.comparison.specs.declared.Position.TheVariants.{Quota as FromQuota, Record as FromRecord, Byte as FromByte}
-use Rattle.comparison.specs.declared.Step.{Step}
-use Rattle.comparison.specs.declared.Step.TheVariants.{Differs, Nothing}
+use Rattle.std.specs.Prelude.{Option, Some, None}
 use Rattle.comparison.specs.declared.Which.{Which}
 use Rattle.comparison.specs.declared.Which.TheVariants.{First, Second, Neither}
 use Rattle.comparison.proofs.Computing.{computing}
@@ -138,26 +137,26 @@ unfolding small other another third
 kind_rows = (refl, refl)
 
 -- positions: from the start, from each part on, from a part's end, behind a difference, inside a run, behind the last
-next_rows : (next_of Start state other ≡ Differs LastSerial FromKind)
-    × (next_of FromKind state other ≡ Differs (QuotaAt 2) (FromQuota 3))
-    × (next_of FromKind state another ≡ Differs Kind FromEdition)
-    × (next_of Start other another ≡ Differs Kind FromEdition)
-    × (next_of FromEdition other another ≡ Nothing)
-    × (next_of FromEdition state another ≡ Differs (QuotaAt 2) (FromQuota 3))
-    × (next_of FromEdition state third ≡ Differs Edition (FromQuota 0))
-    × (next_of Start another third ≡ Differs Edition (FromQuota 0))
-    × (next_of (FromQuota 0) another third ≡ Nothing)
-    × (next_of (FromQuota 0) other another ≡ Nothing)
-    × (next_of Start state (but (9 ∷ [])) ≡ Differs (Bytes 9 1) (FromByte 10))
-    × (next_of (FromQuota 0) state other ≡ Differs (QuotaAt 2) (FromQuota 3))
-    × (next_of (FromQuota 3) state other ≡ Differs (RecordAt 0) (FromRecord 1))
-    × (next_of (FromQuota 32) state other ≡ Differs (RecordAt 0) (FromRecord 1))
-    × (next_of (FromRecord 1) state other ≡ Differs (RecordAt 53) (FromRecord 54))
-    × (next_of (FromRecord 1000) state other ≡ Differs (Bytes 8 1) (FromByte 9))
-    × (next_of (FromByte 9) state other ≡ Differs (Bytes 30 2) (FromByte 32))
-    × (next_of (FromByte 31) state other ≡ Differs (Bytes 31 1) (FromByte 32))
-    × (next_of (FromByte 64) state other ≡ Nothing)
-    × (next_of Start state state ≡ Nothing)
+next_rows : (next_of Start state other ≡ Some (LastSerial, FromKind))
+    × (next_of FromKind state other ≡ Some (QuotaAt 2, FromQuota 3))
+    × (next_of FromKind state another ≡ Some (Kind, FromEdition))
+    × (next_of Start other another ≡ Some (Kind, FromEdition))
+    × (next_of FromEdition other another ≡ None)
+    × (next_of FromEdition state another ≡ Some (QuotaAt 2, FromQuota 3))
+    × (next_of FromEdition state third ≡ Some (Edition, FromQuota 0))
+    × (next_of Start another third ≡ Some (Edition, FromQuota 0))
+    × (next_of (FromQuota 0) another third ≡ None)
+    × (next_of (FromQuota 0) other another ≡ None)
+    × (next_of Start state (but (9 ∷ [])) ≡ Some (Bytes 9 1, FromByte 10))
+    × (next_of (FromQuota 0) state other ≡ Some (QuotaAt 2, FromQuota 3))
+    × (next_of (FromQuota 3) state other ≡ Some (RecordAt 0, FromRecord 1))
+    × (next_of (FromQuota 32) state other ≡ Some (RecordAt 0, FromRecord 1))
+    × (next_of (FromRecord 1) state other ≡ Some (RecordAt 53, FromRecord 54))
+    × (next_of (FromRecord 1000) state other ≡ Some (Bytes 8 1, FromByte 9))
+    × (next_of (FromByte 9) state other ≡ Some (Bytes 30 2, FromByte 32))
+    × (next_of (FromByte 31) state other ≡ Some (Bytes 31 1, FromByte 32))
+    × (next_of (FromByte 64) state other ≡ None)
+    × (next_of Start state state ≡ None)
     × (asked 3 Start state other ≡ LastSerial ∷ QuotaAt 2 ∷ RecordAt 0 ∷ [])
     × (asked 3 Start state another ≡ LastSerial ∷ Kind ∷ QuotaAt 2 ∷ [])
     × (asked 4 Start state third ≡ LastSerial ∷ Kind ∷ Edition ∷ QuotaAt 2 ∷ [])
@@ -181,15 +180,15 @@ found : Option Difference → Compared
 found d = record { refusal = 0; which = Neither; found = d }
 
 refused : ℕ → Which → Compared
-refused n w = record { refusal = n; which = w; found = none }
+refused n w = record { refusal = n; which = w; found = None }
 
 -- the n-th from 0; none behind the last, and none between equal images
-nth_rows : (compare_of first second 0 ≡ found (some LastSerial))
-    × (compare_of first second 1 ≡ found (some (QuotaAt 2)))
-    × (compare_of first second 6 ≡ found (some (Bytes 63 1)))
-    × (compare_of first second 7 ≡ found none)
-    × (compare_of second first 5 ≡ found (some (Bytes 30 2)))
-    × (compare_of first first 0 ≡ found none)
+nth_rows : (compare_of first second 0 ≡ found (Some LastSerial))
+    × (compare_of first second 1 ≡ found (Some (QuotaAt 2)))
+    × (compare_of first second 6 ≡ found (Some (Bytes 63 1)))
+    × (compare_of first second 7 ≡ found None)
+    × (compare_of second first 5 ≡ found (Some (Bytes 30 2)))
+    × (compare_of first first 0 ≡ found None)
 unfolding small other first second found
 nth_rows = (refl, refl, refl, refl, refl, refl)
 
@@ -206,18 +205,18 @@ full_kind = image_of form_2 heap (with_kind 1 (with_last_serial 2 accounts))
 full_edition : List ℕ
 full_edition = image_of form_2 heap (with_edition 1 accounts)
 
-form_rows : (compare_of full full_kind 0 ≡ found (some LastSerial))
-    × (compare_of full full_kind 1 ≡ found (some Kind))
-    × (compare_of full full_kind 2 ≡ found none)
-    × (compare_of full_kind full_kind 0 ≡ found none)
-    × (compare_of full full_edition 0 ≡ found (some Edition))
-    × (compare_of full full_edition 1 ≡ found none)
-    × (compare_of full_kind full_edition 2 ≡ found (some Edition))
-    × (compare_of full_edition full_edition 0 ≡ found none)
+form_rows : (compare_of full full_kind 0 ≡ found (Some LastSerial))
+    × (compare_of full full_kind 1 ≡ found (Some Kind))
+    × (compare_of full full_kind 2 ≡ found None)
+    × (compare_of full_kind full_kind 0 ≡ found None)
+    × (compare_of full full_edition 0 ≡ found (Some Edition))
+    × (compare_of full full_edition 1 ≡ found None)
+    × (compare_of full_kind full_edition 2 ≡ found (Some Edition))
+    × (compare_of full_edition full_edition 0 ≡ found None)
     × (compare_of first full_kind 0 ≡ refused 29 Neither)
-    × (compare_of full full_other 0 ≡ found (some (QuotaAt 31)))
-    × (compare_of full full_other 1 ≡ found none)
-    × (compare_of full full 0 ≡ found none)
+    × (compare_of full full_other 0 ≡ found (Some (QuotaAt 31)))
+    × (compare_of full full_other 1 ≡ found None)
+    × (compare_of full full 0 ≡ found None)
     × (compare_of first full 0 ≡ refused 29 Neither)
     × (compare_of full first 0 ≡ refused 29 Neither)
     × (compare_of full longer 0 ≡ refused 29 Neither)
@@ -244,15 +243,15 @@ unfolding small other first second longer wrong refused
 refused_rows = (refl, refl, refl, refl, refl, refl, refl, refl, refl, refl, refl, refl, refl, refl)
 
 -- the next difference of the same images: from each part on, none behind the last, and all of them one after the other
-step : Step → Advanced
+step : Option (Difference × Position) → Advanced
 step s = record { refusal = 0; which = Neither; step = s }
 
-advance_rows : (advance_of first second Start ≡ step (Differs LastSerial FromKind))
-    × (advance_of first second FromKind ≡ step (Differs (QuotaAt 2) (FromQuota 3)))
-    × (advance_of first second (FromRecord 1) ≡ step (Differs (RecordAt 53) (FromRecord 54)))
-    × (advance_of first second (FromByte 31) ≡ step (Differs (Bytes 31 1) (FromByte 32)))
-    × (advance_of first second (FromByte 64) ≡ step Nothing)
-    × (advance_of first first Start ≡ step Nothing)
+advance_rows : (advance_of first second Start ≡ step (Some (LastSerial, FromKind)))
+    × (advance_of first second FromKind ≡ step (Some (QuotaAt 2, FromQuota 3)))
+    × (advance_of first second (FromRecord 1) ≡ step (Some (RecordAt 53, FromRecord 54)))
+    × (advance_of first second (FromByte 31) ≡ step (Some (Bytes 31 1, FromByte 32)))
+    × (advance_of first second (FromByte 64) ≡ step None)
+    × (advance_of first first Start ≡ step None)
     × (walked 3 Start first second ≡ LastSerial ∷ QuotaAt 2 ∷ RecordAt 0 ∷ [])
 unfolding small other first second step
 advance_rows = (refl, refl, refl, refl, refl, refl, refl)
@@ -266,7 +265,7 @@ flipped : List ℕ
 flipped = set second 1140 9
 
 not_advanced : ℕ → Which → Advanced
-not_advanced n w = record { refusal = n; which = w; step = Nothing }
+not_advanced n w = record { refusal = n; which = w; step = None }
 
 -- refused from every position, in the order of compare
 not_advanced_rows : (advance_of endless endless Start ≡ not_advanced 22 First)

@@ -4,17 +4,17 @@ use mathlib.Core.Path.{◌≡◌, refl, ap, ◌∙◌}
 use mathlib.Core.List.{List, [], ◌∷◌}
 use Prim.Native.Nat.{ℕ, zero, suc, ◌≤◌, ◌<◌}
 use native.Mathlib.Omega.{arith}
-use lib.ListN.{length, take, get_elem?}
+use lib.ListN.{length, take}
 use Rattle.comparison.specs.Differences.{state_in, differences}
 use Rattle.comparison.specs.Positions.{differences_from, next_of, with_answer, asked}
 use Rattle.comparison.specs.Compare.{why_not, unless_refused, nth_of, compare_of, advance_of, walked}
 use Rattle.comparison.specs.declared.Position.{Position}
 use Rattle.comparison.specs.declared.Position.TheVariants.{Start}
-use Rattle.comparison.specs.declared.Step.TheVariants.{Nothing}
+use Rattle.std.specs.Prelude.{None, slice_get}
 use Rattle.comparison.proofs.Rows
 use Rattle.comparison.proofs.Positions.{asked_take, asked_all}
 
-take_nth : {A : Type 0} (n k : ℕ) (xs : List A) → k < n → get_elem? (take n xs) k ≡ get_elem? xs k
+take_nth : {A : Type 0} (n k : ℕ) (xs : List A) → k < n → slice_get (take n xs) k ≡ slice_get xs k
 take_nth zero k xs l = absurd (omega arith)
 take_nth (suc n) k [] l = refl
 take_nth (suc n) zero (x ∷ xs) l = refl
@@ -28,7 +28,7 @@ module _ (i j : List ℕ) where
   advance_refuses p n = (refl, refl)
 
   -- two images that are not compared give nothing
-  refused_step : (m : ℕ) → (why_not i j).refusal ≡ suc m → (p : Position) → (advance_of i j p).step ≡ Nothing
+  refused_step : (m : ℕ) → (why_not i j).refusal ≡ suc m → (p : Position) → (advance_of i j p).step ≡ None
   unfolding advance_of unless_refused
   refused_step m e p = rw e
 
@@ -53,17 +53,17 @@ module _ (i j : List ℕ) where
         → walked n Start i j ≡ differences (state_in i) (state_in j)
     walked_all n l = good_walk n Start ∙ asked_all (state_in i) (state_in j) n l
 
-    good_nth : (n k : ℕ) → k < n → get_elem? (walked n Start i j) k ≡ (compare_of i j k).found
+    good_nth : (n k : ℕ) → k < n → slice_get (walked n Start i j) k ≡ (compare_of i j k).found
     unfolding compare_of nth_of unless_refused differences_from
     good_nth n k l =
-        ap (λ ds. get_elem? ds k) (good_walk n Start ∙ asked_take (state_in i) (state_in j) n Start)
+        ap (λ ds. slice_get ds k) (good_walk n Start ∙ asked_take (state_in i) (state_in j) n Start)
         ∙ (take_nth n k (differences (state_in i) (state_in j)) l ∙ (rw good))
 
   -- rule 14.12, of any two images: the answers from the start on are what compare answers to 0, 1, 2 and so on
-  pub walked_compared : (n k : ℕ) → k < n → get_elem? (walked n Start i j) k ≡ (compare_of i j k).found
+  pub walked_compared : (n k : ℕ) → k < n → slice_get (walked n Start i j) k ≡ (compare_of i j k).found
   unfolding compare_of unless_refused
   walked_compared n k l = go (why_not i j).refusal refl
     where
-      go : (m : ℕ) → (why_not i j).refusal ≡ m → get_elem? (walked n Start i j) k ≡ (compare_of i j k).found
+      go : (m : ℕ) → (why_not i j).refusal ≡ m → slice_get (walked n Start i j) k ≡ (compare_of i j k).found
       go zero e = good_nth e n k l
       go (suc m) e = rw (refused_walk m e n Start, e)

@@ -1,36 +1,26 @@
 -- Comparing two images (rules 14.1, 14.7 to 14.12): the refusals of both, each with the image that it is about, then
 -- the difference that was asked for, by its number or from a position on.
-use Rattle.std.specs.Prelude.{ℕ, zero, suc, List, [], ◌∷◌, not, eqb}
-use Rattle.std.proofs.Math.Option.{Option, none, some}
-use Rattle.std.proofs.Math.ListN.{get_elem?}
+use Rattle.std.specs.Prelude.{ℕ, zero, suc, List, [], ◌∷◌, not, eqb, Option, Some, None, Result, Ok, Err, slice_get}
 use Rattle.model.specs.Refusals.{Line, ◌when◌, first_refusal}
 use Rattle.image_model.specs.Reading.{form_of, size_in}
 use Rattle.image_model.specs.Answers.{image_refusal_number}
+use Rattle.image_model.specs.declared.ImageRefusal.{ImageRefusal}
 use Rattle.image_model.specs.Images.{examine_lines}
 use Rattle.comparison.specs.Differences.{state_in, differences}
 use Rattle.comparison.specs.Positions.{next_of, with_answer}
 use Rattle.comparison.specs.declared.Difference.{Difference}
 use Rattle.comparison.specs.declared.Which.{Which}
 use Rattle.comparison.specs.declared.Which.TheVariants.{First, Second, Neither}
-use Rattle.comparison.specs.declared.Pair.{Pair}
-use Rattle.comparison.specs.declared.Pair.TheVariants.{Comparable, Refused as NotComparable}
-use Rattle.comparison.specs.declared.CompareAnswer.{CompareAnswer}
-use Rattle.comparison.specs.declared.CompareAnswer.TheVariants.{Differs, Nothing, Refused}
 use Rattle.comparison.specs.declared.Position.{Position}
-use Rattle.comparison.specs.declared.Step.{Step}
-use Rattle.comparison.specs.declared.Step.TheVariants.{Differs as StepDiffers, Nothing as NoStep}
-use Rattle.comparison.specs.declared.NextAnswer.{NextAnswer}
-use Rattle.comparison.specs.declared.NextAnswer.TheVariants.{Differs as NextDiffers, Nothing as NoNext}
-use Rattle.comparison.specs.declared.NextAnswer.TheVariants.{Refused as NextRefused}
 
 -- why two images are not compared: a refusal's number, 0 where there is none, and which image it is about
 pub record Why : Type 0 where
   pub refusal : ℕ
   pub which : Which
 
-unfoldable pub paired : Pair → Why
-paired Comparable = record { refusal = 0; which = Neither }
-paired (NotComparable r w) = record { refusal = image_refusal_number r; which = w }
+unfoldable pub paired : Result Unit (ImageRefusal × Which) → Why
+paired (Ok tt) = record { refusal = 0; which = Neither }
+paired (Err (r, w)) = record { refusal = image_refusal_number r; which = w }
 
 -- 29: the images are of two forms
 unfoldable pub line_29 : List ℕ → List ℕ → Line
@@ -70,41 +60,40 @@ pub record Compared : Type 0 where
   pub which : Which
   pub found : Option Difference
 
-unfoldable pub compared : CompareAnswer → Compared
-compared (Differs d) = record { refusal = 0; which = Neither; found = some d }
-compared Nothing = record { refusal = 0; which = Neither; found = none }
-compared (Refused r w) = record { refusal = image_refusal_number r; which = w; found = none }
+unfoldable pub compared : Result (Option Difference) (ImageRefusal × Which) → Compared
+compared (Ok (Some d)) = record { refusal = 0; which = Neither; found = Some d }
+compared (Ok None) = record { refusal = 0; which = Neither; found = None }
+compared (Err (r, w)) = record { refusal = image_refusal_number r; which = w; found = None }
 
 -- the n-th difference, from 0, of the states that two images say
 unfoldable pub nth_of : List ℕ → List ℕ → ℕ → Compared
-nth_of i j n = record { refusal = 0; which = Neither; found = get_elem? (differences (state_in i) (state_in j)) n }
+nth_of i j n = record { refusal = 0; which = Neither; found = slice_get (differences (state_in i) (state_in j)) n }
 
 -- rules 14.1 and 14.10
 unfoldable pub compare_of : List ℕ → List ℕ → ℕ → Compared
 compare_of i j n =
     let w = why_not i j in
-    record { refusal = w.refusal; which = w.which; found = unless_refused w.refusal none (nth_of i j n).found }
+    record { refusal = w.refusal; which = w.which; found = unless_refused w.refusal None (nth_of i j n).found }
 
 -- what the next difference comes to: the refusal, and the step
 pub record Advanced : Type 0 where
   pub refusal : ℕ
   pub which : Which
-  pub step : Step
+  pub step : Option (Difference × Position)
 
-unfoldable pub stepped : Step → Advanced
+unfoldable pub stepped : Option (Difference × Position) → Advanced
 stepped s = record { refusal = 0; which = Neither; step = s }
 
-unfoldable pub advanced : NextAnswer → Advanced
-advanced (NextDiffers d p) = stepped (StepDiffers d p)
-advanced NoNext = stepped NoStep
-advanced (NextRefused r w) = record { refusal = image_refusal_number r; which = w; step = NoStep }
+unfoldable pub advanced : Result (Option (Difference × Position)) (ImageRefusal × Which) → Advanced
+advanced (Ok s) = stepped s
+advanced (Err (r, w)) = record { refusal = image_refusal_number r; which = w; step = None }
 
 -- rule 14.11: refused as compare is; else the first difference from a position on
 unfoldable pub advance_of : List ℕ → List ℕ → Position → Advanced
 advance_of i j p =
     let w = why_not i j in
     let due = next_of p (state_in i) (state_in j) in
-    record { refusal = w.refusal; which = w.which; step = unless_refused w.refusal NoStep due }
+    record { refusal = w.refusal; which = w.which; step = unless_refused w.refusal None due }
 
 -- rule 14.12: what so many questions give, each from the position behind the answer before
 unfoldable pub walked : ℕ → Position → List ℕ → List ℕ → List Difference

@@ -1,12 +1,10 @@
 -- The same list from a position on, so that one difference can be asked for after the other (rules 14.11 to 14.13).
-use Rattle.std.specs.Prelude.{ℕ, zero, suc, ◌+◌, List, [], ◌∷◌, ◌++◌, drop}
+use Rattle.std.specs.Prelude.{ℕ, zero, suc, ◌+◌, List, [], ◌∷◌, ◌++◌, drop, Option, Some, None}
 use Rattle.comparison.specs.Differences.{State, number_part, quota_part, record_part, byte_part, differences}
 use Rattle.comparison.specs.declared.Difference.{Difference}
 use Rattle.comparison.specs.declared.Difference.TheVariants.{LastSerial, Kind, Edition, Quota as QuotaAt, Record as RecordAt, Bytes}
 use Rattle.comparison.specs.declared.Position.{Position}
 use Rattle.comparison.specs.declared.Position.TheVariants.{Start, Kind as FromKind, Edition as FromEdition, Quota, Record, Byte}
-use Rattle.comparison.specs.declared.Step.{Step}
-use Rattle.comparison.specs.declared.Step.TheVariants.{Differs, Nothing}
 
 -- the bytes from an offset on; the records from a place on, then all bytes; the quotas from a number on, then all records and bytes; the edition
 -- and the kind, then all behind it
@@ -44,17 +42,17 @@ behind (RecordAt p) = Record (p + 1)
 behind (Bytes at n) = Byte (at + n)
 
 -- the first of a list of differences, with the position behind it
-unfoldable pub first_of : List Difference → Step
-first_of [] = Nothing
-first_of (d ∷ ds) = Differs d (behind d)
+unfoldable pub first_of : List Difference → Option (Difference × Position)
+first_of [] = None
+first_of (d ∷ ds) = Some (d, behind d)
 
-unfoldable pub next_of : Position → State → State → Step
+unfoldable pub next_of : Position → State → State → Option (Difference × Position)
 next_of p a b = first_of (differences_from p a b)
 
 -- what is made of an answer, nothing where there is no difference
-unfoldable pub with_answer : Step → (Difference → Position → List Difference) → List Difference
-with_answer Nothing f = []
-with_answer (Differs d p) f = f d p
+unfoldable pub with_answer : Option (Difference × Position) → (Difference → Position → List Difference) → List Difference
+with_answer None f = []
+with_answer (Some (d, p)) f = f d p
 
 -- what so many questions give, each from the position behind the answer before
 unfoldable pub asked : ℕ → Position → State → State → List Difference

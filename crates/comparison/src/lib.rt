@@ -1,8 +1,6 @@
 // Two images side by side: what differs in the states that they say, one difference after the other. What an image says stands in `image_model`.
 #![tactic(auto)]
 
-use image_model::ImageRefusal;
-
 mod comparing;
 mod finding;
 mod going;
@@ -30,14 +28,6 @@ pub enum Which {
     Neither,
 }
 
-// The difference that was asked for, or that there are not so many, or why the images are not compared.
-#[derive(Clone, Copy)]
-pub enum CompareAnswer {
-    Differs(Difference),
-    Nothing,
-    Refused(ImageRefusal, Which),
-}
-
 // From where on differences are looked for: from the last serial, from the kind, from the edition, from a quota, a hold record or a heap byte.
 #[derive(Clone, Copy)]
 pub enum Position {
@@ -47,26 +37,4 @@ pub enum Position {
     Quota(usize),
     Record(usize),
     Byte(usize),
-}
-
-// The first difference from a position on, and the position behind it; or that there is none.
-#[derive(Clone, Copy)]
-pub enum Step {
-    Differs(Difference, Position),
-    Nothing,
-}
-
-// The same of two images; or why they are not compared.
-#[derive(Clone, Copy)]
-pub enum NextAnswer {
-    Differs(Difference, Position),
-    Nothing,
-    Refused(ImageRefusal, Which),
-}
-
-// Whether two images are compared; or why not, and which of them it is about.
-#[derive(Clone, Copy)]
-pub(crate) enum Pair {
-    Comparable,
-    Refused(ImageRefusal, Which),
 }

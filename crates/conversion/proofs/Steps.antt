@@ -14,8 +14,7 @@ use Rattle.framing.specs.Frames.{padded, stream_of}
 use Rattle.image_model.specs.declared.Form.{Form}
 use Rattle.image_model.specs.declared.ImageRefusal.{ImageRefusal}
 use Rattle.image_model.specs.declared.ImageRefusal.TheVariants.{Unsound}
-use Rattle.image_model.specs.declared.WriteAnswer.{WriteAnswer}
-use Rattle.image_model.specs.declared.WriteAnswer.TheVariants.{Written, Refused as NotWritten}
+use Rattle.std.specs.Prelude.{Result, Ok, Err}
 use Rattle.image_model.specs.Stream.{head_length}
 use Rattle.image_model.specs.Reading.{form_of, size_in, accounts_in, heap_of, heap_in}
 use Rattle.image_model.specs.Answers.{Imaged, imaged, image_refusal_number}
@@ -78,13 +77,13 @@ in_two true o ls x = refl
 in_two false o ls x = refl
 
 module _ (from to : Form) (i o : List ℕ) where
-  refused_as : (r : ImageRefusal) → first_refusal (move_lines from to i o) ≡ image_refusal_number r → imaged o (NotWritten r) ≡ moved from to i o
+  refused_as : (r : ImageRefusal) → first_refusal (move_lines from to i o) ≡ image_refusal_number r → imaged o (Err r) ≡ moved from to i o
   unfolding imaged moved
   refused_as r e = rw e (unless_some (image_refusal_number r) o _ (image_refusal_is r).1)
 
   -- an image that is not of the form to move from
   pub move_other : ((form_of i).number ≡ from.number → ⊥) → (r : ImageRefusal) → image_refusal_number r ≡ other_form (first_refusal (shape_lines i))
-      → imaged o (NotWritten r) ≡ moved from to i o
+      → imaged o (Err r) ≡ moved from to i o
   unfolding move_lines shape_lines line_21 line_22 line_23 line_from line_24
   move_other h r e = refused_as r (rw (ne_eqb (form_of i).number from.number h) (first_other _ _ _ _ _ ∙ sym e))
 
@@ -94,7 +93,7 @@ module _ (from to : Form) (i o : List ℕ) where
     kept zero l e = absurd (omega arith)
     kept (suc m) l e = of_the_form from to i o form ∙ first_kept (shape_lines i) _ m e
 
-    pub move_refused : (r : ImageRefusal) → first_refusal (shape_lines i) ≡ image_refusal_number r → imaged o (NotWritten r) ≡ moved from to i o
+    pub move_refused : (r : ImageRefusal) → first_refusal (shape_lines i) ≡ image_refusal_number r → imaged o (Err r) ≡ moved from to i o
     move_refused r e = refused_as r (kept (image_refusal_number r) (image_refusal_is r).1 e)
 
     -- one that they do not refuse
@@ -111,7 +110,8 @@ module _ (from to : Form) (i o : List ℕ) where
         (λ j. rewritten to o (padded (w.size j) (drop (head_length (form_of i)) (stream_of i))) (w.accounts j)) ∙ state_moved w.lines
 
 -- the writer on a state whose heap has a length that is allowed
-module _ (to : Form) (o o' s : List ℕ) (k : Accounts) (a : WriteAnswer) (extent : allowed (length s) ≡ true) (told : imaged o' a ≡ write_image to o s k) where
+module _ (to : Form) (o o' s : List ℕ) (k : Accounts) (a : Result ℕ ImageRefusal) (extent : allowed (length s) ≡ true) (told : imaged o' a
+    ≡ write_image to o s k) where
   by_state : (b : Bool) → own_consistent s k ≡ b → write_image to o s k ≡ unless_written (first_refusal ((2 when not b) ∷ [])) o (put_image to o s k)
   unfolding write_image write_lines line_1 line_2 put_image unless_written first_refusal
   by_state true e = rw (extent, e)
@@ -146,19 +146,20 @@ module _ (to : Form) (o o' s : List ℕ) (k : Accounts) (a : WriteAnswer) (exten
       (λ j. record { image = w j; refusal = 26; length = 0 }) ∙ as_26 false e
 
   -- a length, a refusal that is not 2, and 2
-  pub rewrite_written : (n : ℕ) → a ≡ Written n → imaged o' a ≡ rewritten to o s k
+  pub rewrite_written : (n : ℕ) → a ≡ Ok n → imaged o' a ≡ rewritten to o s k
   unfolding imaged
   rewrite_written n e =
-      consistent_kept (own_consistent s k) refl (λ t. let z : 0 ≡ 2 = sym (ap (λ (x : WriteAnswer). (imaged o' x).refusal) e) ∙ t in absurd (omega (arith, z)))
+      consistent_kept (own_consistent s k) refl (λ t. let z : 0 ≡ 2 = sym (ap (λ (x : Result ℕ ImageRefusal). (imaged o' x).refusal) e)
+      ∙ t in absurd (omega (arith, z)))
 
-  pub rewrite_refused : (r : ImageRefusal) → a ≡ NotWritten r → (image_refusal_number r ≡ 2 → ⊥) → imaged o' (NotWritten r) ≡ rewritten to o s k
+  pub rewrite_refused : (r : ImageRefusal) → a ≡ Err r → (image_refusal_number r ≡ 2 → ⊥) → imaged o' (Err r) ≡ rewritten to o s k
   unfolding imaged
   rewrite_refused r e h =
-      ap (imaged o') (sym e) ∙ consistent_kept (own_consistent s k) refl (λ t. h (sym (ap (λ (x : WriteAnswer). (imaged o' x).refusal) e) ∙ t))
+      ap (imaged o') (sym e) ∙ consistent_kept (own_consistent s k) refl (λ t. h (sym (ap (λ (x : Result ℕ ImageRefusal). (imaged o' x).refusal) e) ∙ t))
 
-  pub rewrite_unsound : (r : ImageRefusal) → a ≡ NotWritten r → image_refusal_number r ≡ 2 → imaged o' (NotWritten Unsound) ≡ rewritten to o s k
+  pub rewrite_unsound : (r : ImageRefusal) → a ≡ Err r → image_refusal_number r ≡ 2 → imaged o' (Err Unsound) ≡ rewritten to o s k
   unfolding imaged
   rewrite_unsound r e h =
-      let w : o' ≡ (imaged o' a).image = sym (ap (λ (x : WriteAnswer). (imaged o' x).image) e) in
+      let w : o' ≡ (imaged o' a).image = sym (ap (λ (x : Result ℕ ImageRefusal). (imaged o' x).image) e) in
       (λ j. record { image = w j; refusal = 26; length = 0 })
-      ∙ unsound_told (own_consistent s k) refl (ap (λ (x : WriteAnswer). (imaged o' x).refusal) e ∙ h)
+      ∙ unsound_told (own_consistent s k) refl (ap (λ (x : Result ℕ ImageRefusal). (imaged o' x).refusal) e ∙ h)

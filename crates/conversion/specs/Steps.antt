@@ -1,5 +1,5 @@
 -- A move in the steps of its code: which forms it is between, why an image of the other form is refused, and what is left once an image's own bytes are right.
-use Rattle.std.specs.Prelude.{ℕ, zero, suc, List, [], ◌∷◌, Bool, not, cond, ltb}
+use Rattle.std.specs.Prelude.{ℕ, zero, suc, List, [], ◌∷◌, not, cond, ltb}
 use Rattle.accounts.specs.declared.Accounts.{Accounts}
 use Rattle.model.specs.Refusals.{◌when◌, first_refusal}
 use Rattle.image_model.specs.declared.Form.{Form}
@@ -7,13 +7,17 @@ use Rattle.image_model.specs.Stream.{form_1, form_2}
 use Rattle.image_model.specs.Answers.{Imaged}
 use Rattle.image_model.specs.Images.{own_consistent, unless_written}
 use Rattle.image.specs.Parsing.{put_image}
+use Rattle.conversion.specs.declared.Direction.{Direction}
+use Rattle.conversion.specs.declared.Direction.TheVariants.{Up, Down}
 
 -- the form that is moved from and the one that is moved to, up or down
-abbrev pub form_from : Bool → Form
-form_from up = cond up form_1 form_2
+abbrev pub form_from : Direction → Form
+form_from Up = form_1
+form_from Down = form_2
 
-abbrev pub form_to : Bool → Form
-form_to up = cond up form_2 form_1
+abbrev pub form_to : Direction → Form
+form_to Up = form_2
+form_to Down = form_1
 
 -- the refusal of an image that is not of the form to move from, by the one that its own bytes give, 0 for none: 21 and 22 come before 23
 unfoldable pub other_form : ℕ → ℕ

@@ -5,3 +5,10 @@
 mod moving;
 
 pub use moving::{move_down, move_up};
+
+// The way of a move: up from form 1 to form 2, or down from form 2 to form 1.
+#[derive(Clone, Copy)]
+pub(crate) enum Direction {
+    Up,
+    Down,
+}

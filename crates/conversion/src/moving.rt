@@ -11,9 +11,9 @@ ghost use Rattle.image.specs.Parsing.{shape_parts};
 ghost use Rattle.conversion.specs.Moves.{moved, move_up, move_down};
 ghost use Rattle.conversion.specs.Steps.{form_from, form_to, other_form, rewritten};
 
+use crate::Direction;
 use accounts::Accounts;
-use image::Shape;
-use image_model::{ImageRefusal, WriteAnswer};
+use image_model::{Form, ImageRefusal};
 use layout::GREATEST_HEAP;
 
 // Bytes for the longest heap.
@@ -22,23 +22,28 @@ fn heap_space() -> [u8; GREATEST_HEAP] {
 }
 
 // The number of the form that is moved from, up or down.
-fn number_from(up: bool) -> u32
-    ensures { result ≡ (form_from up).number }
+fn number_from(way: Direction) -> u32
+    ensures { result ≡ (form_from way).number }
 {
-    if up {
-        return 1;
+    match way {
+        Direction::Up => 1,
+        Direction::Down => 2,
     }
-    2
 }
 
 // The image of a heap and its accounts in the form that is moved to, where they are consistent.
-fn write_to(out: &mut [u8], heap: &[u8], accounts: Accounts, up: bool) -> WriteAnswer
-    ensures { imaged out.new result ≡ write_image (form_to up) out.old heap.now accounts }
+fn write_to(
+    out: &mut [u8],
+    heap: &[u8],
+    accounts: Accounts,
+    way: Direction,
+) -> Result<usize, ImageRefusal>
+    ensures { imaged out.new result ≡ write_image (form_to way) out.old heap.now accounts }
 {
-    if up {
-        return image::write_image(out, heap, accounts);
+    match way {
+        Direction::Up => image::write_image(out, heap, accounts),
+        Direction::Down => image::write_form_1(out, heap, accounts),
     }
-    image::write_form_1(out, heap, accounts)
 }
 
 // The heap of an image is copied out, as many bytes as there is room for, and written with the accounts. The writer tests whether they are consistent:
@@ -48,39 +53,45 @@ fn rewrite_in(
     out: &mut [u8],
     room: &mut [u8],
     accounts: Accounts,
-    up: bool,
-) -> WriteAnswer
+    way: Direction,
+) -> Result<usize, ImageRefusal>
     requires { allowed (length room.old) ≡ true }
-    ensures { imaged out.new result ≡ rewritten (form_to up) out.old
+    ensures { imaged out.new result ≡ rewritten (form_to way) out.old
         (padded (length room.old) (drop (head_length (form_of image.now)) (stream_of image.now))) accounts }
 {
     let place = image::heap_place(image);
     framing::copy_stream(image, place.start, room);
-    let answer = write_to(out, room, accounts, up);
-    let WriteAnswer::Refused(refusal) = answer else {
+    let answer = write_to(out, room, accounts, way);
+    let Err(refusal) = answer else {
         return answer;
     };
     if refusal.number() == 2 {
-        return WriteAnswer::Refused(ImageRefusal::Unsound);
+        return Err(ImageRefusal::Unsound);
     }
     answer
 }
 
 // The same of a heap of so many bytes, which the image has in pieces; in one piece it stands on the stack.
-fn rewrite(image: &[u8], out: &mut [u8], size: usize, accounts: Accounts, up: bool) -> WriteAnswer
+fn rewrite(
+    image: &[u8],
+    out: &mut [u8],
+    size: usize,
+    accounts: Accounts,
+    way: Direction,
+) -> Result<usize, ImageRefusal>
     requires { allowed size ≡ true }
-    ensures { imaged out.new result ≡ rewritten (form_to up) out.old
+    ensures { imaged out.new result ≡ rewritten (form_to way) out.old
         (padded size (drop (head_length (form_of image.now)) (stream_of image.now))) accounts }
 {
     let mut room = heap_space();
-    rewrite_in(image, out, &mut room[..size], accounts, up)
+    rewrite_in(image, out, &mut room[..size], accounts, way)
 }
 
 // Why an image is refused that is not of the form to move from, by what its own bytes are: 21 and 22 come before 23.
-fn other_form(shape: Shape) -> ImageRefusal
+fn other_form(shape: Result<(Form, usize), ImageRefusal>) -> ImageRefusal
     ensures { (k : Accounts) → image_refusal_number result ≡ other_form (shape_parts shape k).refusal }
 {
-    let Shape::Refused(refusal) = shape else {
+    let Err(refusal) = shape else {
         return ImageRefusal::FormNumber;
     };
     if refusal.number() > 22 {
@@ -90,32 +101,32 @@ fn other_form(shape: Shape) -> ImageRefusal
 }
 
 // An image moved up or down.
-fn moved(image: &[u8], out: &mut [u8], up: bool) -> WriteAnswer
-    ensures { imaged out.new result ≡ moved (form_from up) (form_to up) image.now out.old }
+fn moved(image: &[u8], out: &mut [u8], way: Direction) -> Result<usize, ImageRefusal>
+    ensures { imaged out.new result ≡ moved (form_from way) (form_to way) image.now out.old }
 {
     let parsed = image::parse_image(image);
     let accounts = parsed.accounts;
     let shape = parsed.shape;
     let form = image::form_of(image);
-    if form.number != number_from(up) {
-        return WriteAnswer::Refused(other_form(shape));
+    if form.number != number_from(way) {
+        return Err(other_form(shape));
     }
     match shape {
-        Shape::Image(_, size) => rewrite(image, out, size, accounts, up),
-        Shape::Refused(refusal) => WriteAnswer::Refused(refusal),
+        Ok((_, size)) => rewrite(image, out, size, accounts, way),
+        Err(refusal) => Err(refusal),
     }
 }
 
 // The image in form 2 of the state that an image of form 1 says, at the front of the lent bytes; the others stay, and all of them where it is refused.
-pub fn move_up(image: &[u8], out: &mut [u8]) -> WriteAnswer
+pub fn move_up(image: &[u8], out: &mut [u8]) -> Result<usize, ImageRefusal>
     ensures { imaged out.new result ≡ move_up image.now out.old }
 {
-    moved(image, out, true)
+    moved(image, out, Direction::Up)
 }
 
 // The image in form 1 of the state that an image of form 2 says, which not every state fits.
-pub fn move_down(image: &[u8], out: &mut [u8]) -> WriteAnswer
+pub fn move_down(image: &[u8], out: &mut [u8]) -> Result<usize, ImageRefusal>
     ensures { imaged out.new result ≡ move_down image.now out.old }
 {
-    moved(image, out, false)
+    moved(image, out, Direction::Down)
 }

@@ -3,7 +3,7 @@
 use Prim.Native.Nat.{ℕ}
 use mathlib.Core.Path.{◌≡◌, refl, ap, sym, ◌∙◌}
 use mathlib.Core.List.{[], ◌∷◌}
-use mathlib.Core.Option.{Option, none, some}
+use Rattle.std.specs.Prelude.{Option, Some, None}
 use lib.ListN.{get_or}
 use Rattle.comparison.specs.declared.Difference.{Difference}
 use Rattle.comparison.specs.declared.Difference.TheVariants.{LastSerial, Kind, Edition, Quota as QuotaAt, Record as RecordAt, Bytes}
@@ -11,20 +11,17 @@ use Rattle.comparison.specs.declared.Which.{Which}
 use Rattle.comparison.specs.declared.Which.TheVariants.{First, Second, Neither}
 use Rattle.comparison.specs.declared.Position.{Position}
 use Rattle.comparison.specs.declared.Position.TheVariants.{Start, Kind as FromKind, Edition as FromEdition, Quota, Record, Byte}
-use Rattle.comparison.specs.declared.Step.{Step}
-use Rattle.comparison.specs.declared.Step.TheVariants.{Differs, Nothing}
 use Rattle.comparison.specs.Compare.{Compared, Advanced}
 use Rattle.exports.specs.ComparisonReplies.{which_number, difference_number, place_number, length_number, reply_with, compare_reply, position_of}
 use Rattle.exports.specs.ComparisonReplies.{part_number, place_in, step_reply, next_reply}
 use Rattle.exports.specs.declared.comparisons.CompareReply.{CompareReply}
 use Rattle.exports.specs.declared.comparisons.NextReply.{NextReply}
-use Rattle.exports.proofs.ComparisonRows
 
 -- from numbers, the difference, the image, the position
 abbrev difference_from : ℕ → ℕ → ℕ → Option Difference
-difference_from k p n = get_or (none ∷ some LastSerial ∷ some (QuotaAt p) ∷ some (RecordAt p) ∷ some (Bytes p n) ∷ some Kind ∷ some Edition ∷ []) k none
+difference_from k p n = get_or (None ∷ Some LastSerial ∷ Some (QuotaAt p) ∷ Some (RecordAt p) ∷ Some (Bytes p n) ∷ Some Kind ∷ Some Edition ∷ []) k None
 
-difference_back : (d : Difference) → difference_from (difference_number d) (place_number d) (length_number d) ≡ some d
+difference_back : (d : Difference) → difference_from (difference_number d) (place_number d) (length_number d) ≡ Some d
 difference_back LastSerial = refl
 difference_back Kind = refl
 difference_back Edition = refl
@@ -45,8 +42,8 @@ abbrev compared_from : CompareReply → Compared
 compared_from r = record { refusal = r.refusal; which = which_from r.which; found = difference_from r.kind r.place r.length }
 
 compared_back : (n : ℕ) (w : Which) (o : Option Difference) → compared_from (reply_with n (which_number w) o) ≡ record { refusal = n; which = w; found = o }
-compared_back n w none = λ i. record { refusal = n; which = which_back w i; found = none }
-compared_back n w (some d) = λ i. record { refusal = n; which = which_back w i; found = difference_back d i }
+compared_back n w None = λ i. record { refusal = n; which = which_back w i; found = None }
+compared_back n w (Some d) = λ i. record { refusal = n; which = which_back w i; found = difference_back d i }
 
 pub compare_reply_injective : (a b : Compared) → compare_reply a ≡ compare_reply b → a ≡ b
 compare_reply_injective a b e =
@@ -63,9 +60,9 @@ position_back (Record p) = refl
 position_back (Byte at) = refl
 
 -- and no two outcomes of the next difference give the same reply
-step_from : Option Difference → Position → Step
-step_from none p = Nothing
-step_from (some d) p = Differs d p
+step_from : Option Difference → Position → Option (Difference × Position)
+step_from None p = None
+step_from (Some d) p = Some (d, p)
 
 abbrev advanced_from : NextReply → Advanced
 advanced_from r =
@@ -75,12 +72,12 @@ advanced_from r =
       step = step_from (difference_from r.kind r.place r.length) (position_of r.part r.at);
     }
 
-advanced_back : (n : ℕ) (w : Which) (s : Step)
+advanced_back : (n : ℕ) (w : Which) (s : Option (Difference × Position))
     → advanced_from (step_reply n (which_number w) s) ≡ record { refusal = n; which = w; step = s }
 unfolding step_from
-advanced_back n w (Differs d p) = λ i.
+advanced_back n w (Some (d, p)) = λ i.
     record { refusal = n; which = which_back w i; step = step_from (difference_back d i) (position_back p i) }
-advanced_back n w Nothing = λ i. record { refusal = n; which = which_back w i; step = Nothing }
+advanced_back n w None = λ i. record { refusal = n; which = which_back w i; step = None }
 
 pub next_reply_injective : (a b : Advanced) → next_reply a ≡ next_reply b → a ≡ b
 next_reply_injective a b e =

@@ -1,12 +1,11 @@
 -- The numbers of every kind of answer, computed.
 use mathlib.Core.Path.{◌≡◌, refl}
 use mathlib.Core.List.{[], ◌∷◌, map}
-use mathlib.Core.Option.{none, some}
 use Prim.Native.Nat.{ℕ}
 use Rattle.comparison.specs.declared.Difference.TheVariants.{LastSerial, Kind, Edition, Quota as QuotaAt, Record as RecordAt, Bytes}
 use Rattle.comparison.specs.declared.Which.TheVariants.{First, Second, Neither}
 use Rattle.comparison.specs.declared.Position.TheVariants.{Start, Kind as FromKind, Edition as FromEdition, Quota, Record, Byte}
-use Rattle.comparison.specs.declared.Step.TheVariants.{Differs, Nothing}
+use Rattle.std.specs.Prelude.{Some, None}
 use Rattle.exports.specs.ComparisonReplies.{compare_reply, position_of, next_reply}
 use Rattle.exports.specs.declared.comparisons.CompareReply.{CompareReply}
 use Rattle.exports.specs.declared.comparisons.NextReply.{NextReply}
@@ -15,17 +14,17 @@ reply : ℕ → ℕ → ℕ → ℕ → ℕ → CompareReply
 reply r w k p n = record { refusal = r; which = w; kind = k; place = p; length = n }
 
 compare_rows : map compare_reply
-    (record { refusal = 0; which = Neither; found = none }
-    ∷ record { refusal = 0; which = Neither; found = some LastSerial }
-    ∷ record { refusal = 0; which = Neither; found = some Kind }
-    ∷ record { refusal = 0; which = Neither; found = some Edition }
-    ∷ record { refusal = 0; which = Neither; found = some (QuotaAt 7) }
-    ∷ record { refusal = 0; which = Neither; found = some (RecordAt 511) }
-    ∷ record { refusal = 0; which = Neither; found = some (Bytes 8 24) }
-    ∷ record { refusal = 22; which = First; found = none }
-    ∷ record { refusal = 26; which = Second; found = none }
-    ∷ record { refusal = 27; which = Neither; found = none }
-    ∷ record { refusal = 29; which = Neither; found = none }
+    (record { refusal = 0; which = Neither; found = None }
+    ∷ record { refusal = 0; which = Neither; found = Some LastSerial }
+    ∷ record { refusal = 0; which = Neither; found = Some Kind }
+    ∷ record { refusal = 0; which = Neither; found = Some Edition }
+    ∷ record { refusal = 0; which = Neither; found = Some (QuotaAt 7) }
+    ∷ record { refusal = 0; which = Neither; found = Some (RecordAt 511) }
+    ∷ record { refusal = 0; which = Neither; found = Some (Bytes 8 24) }
+    ∷ record { refusal = 22; which = First; found = None }
+    ∷ record { refusal = 26; which = Second; found = None }
+    ∷ record { refusal = 27; which = Neither; found = None }
+    ∷ record { refusal = 29; which = Neither; found = None }
     ∷ [])
     ≡ reply 0 0 0 0 0 ∷ reply 0 0 1 0 0 ∷ reply 0 0 5 0 0 ∷ reply 0 0 6 0 0 ∷ reply 0 0 2 7 0 ∷ reply 0 0 3 511 0 ∷ reply 0 0 4 8 24
     ∷ reply 22 1 0 0 0 ∷ reply 26 2 0 0 0 ∷ reply 27 0 0 0 0 ∷ reply 29 0 0 0 0 ∷ []
@@ -41,8 +40,8 @@ next : ℕ → ℕ → ℕ → ℕ → ℕ → NextReply
 next k p n part at = record { refusal = 0; which = 0; kind = k; place = p; length = n; part = part; at = at }
 
 next_rows : map (λ s. next_reply (record { refusal = 0; which = Neither; step = s }))
-    (Nothing ∷ Differs LastSerial FromKind ∷ Differs Kind FromEdition ∷ Differs Edition (Quota 0)
-    ∷ Differs (QuotaAt 7) (Quota 8) ∷ Differs (RecordAt 3) (Record 4) ∷ Differs (Bytes 8 24) (Byte 32) ∷ [])
+    (None ∷ Some (LastSerial, FromKind) ∷ Some (Kind, FromEdition) ∷ Some (Edition, Quota 0)
+    ∷ Some (QuotaAt 7, Quota 8) ∷ Some (RecordAt 3, Record 4) ∷ Some (Bytes 8 24, Byte 32) ∷ [])
     ≡ next 0 0 0 0 0 ∷ next 1 0 0 4 0 ∷ next 5 0 0 5 0 ∷ next 6 0 0 1 0 ∷ next 2 7 0 1 8 ∷ next 3 3 0 2 4 ∷ next 4 8 24 3 32 ∷ []
 unfolding next
 next_rows = refl
@@ -51,9 +50,9 @@ not_next : ℕ → ℕ → NextReply
 not_next r w = record { refusal = r; which = w; kind = 0; place = 0; length = 0; part = 0; at = 0 }
 
 not_next_rows : map next_reply
-    (record { refusal = 22; which = First; step = Nothing }
-    ∷ record { refusal = 26; which = Second; step = Nothing }
-    ∷ record { refusal = 29; which = Neither; step = Nothing }
+    (record { refusal = 22; which = First; step = None }
+    ∷ record { refusal = 26; which = Second; step = None }
+    ∷ record { refusal = 29; which = Neither; step = None }
     ∷ [])
     ≡ not_next 22 1 ∷ not_next 26 2 ∷ not_next 29 0 ∷ []
 unfolding not_next

@@ -1,9 +1,9 @@
 -- A reply's numbers say everything: what a reply makes gives it back, so no two make the same. Of a block's reply the
 -- values give it back because it is exact. And the check's outcome is its values, since it changes nothing.
+use Rattle.std.specs.Prelude.{Option, Some, None}
 use Prim.Native.Nat.{ℕ}
 use mathlib.Core.Path.{◌≡◌, refl, ap, sym, subst⁻¹, ◌∙◌}
 use mathlib.Core.List.{List}
-use mathlib.Core.Option.{Option, none, some}
 use Rattle.accounts.specs.declared.Accounts.{Accounts}
 use Rattle.model.specs.declared.ListedBlock.{ListedBlock}
 use Rattle.model.specs.Answers.{Values, zero_handle, refused}
@@ -44,8 +44,8 @@ block_numbers_injective a b x y e = x ∙ ap (λ (v : Values). reply_with v.refu
 -- a reply that is made of a block, or of none, is exact
 pub reply_exact : (n : ℕ) (b : Option ListedBlock) (r : BlockReply) → r ≡ reply_with n b → Exact r
 unfolding found_block reply_with
-reply_exact n none r e = subst⁻¹ Exact e refl
-reply_exact n (some b) r e = subst⁻¹ Exact e refl
+reply_exact n None r e = subst⁻¹ Exact e refl
+reply_exact n (Some b) r e = subst⁻¹ Exact e refl
 
 -- the values of the check are its whole outcome
 pub check_whole : (unit : ℕ → ℕ) (s : List ℕ) (k : Accounts) (n : ℕ) → refused n ≡ (check unit s k).values

@@ -1,4 +1,6 @@
 -- The numbers of every kind of answer, computed; and what a reply makes gives it back, so no two make the same.
+use Rattle.std.specs.Prelude.{Result, Ok, Err}
+use Rattle.queue.specs.declared.QueueRefusal.{QueueRefusal}
 use mathlib.Core.Path.{◌≡◌, refl}
 use mathlib.Core.List.{List, [], ◌∷◌, map}
 use Prim.Native.Nat.{ℕ}
@@ -6,9 +8,6 @@ use Rattle.words.specs.Words.{accounts_of}
 use Rattle.model.specs.declared.Handle.{Handle}
 use Rattle.model.specs.declared.Refusal.TheVariants.{NotHeld, NotPermitted}
 use Rattle.queue.specs.declared.QueueRefusal.TheVariants.{Damaged, Full, Empty, Heap}
-use Rattle.queue.specs.declared.SendAnswer.TheVariants.{Sent, Refused}
-use Rattle.queue.specs.declared.ReceiveAnswer.{ReceiveAnswer}
-use Rattle.queue.specs.declared.ReceiveAnswer.TheVariants.{Given, Refused as NotGiven}
 use Rattle.queue.specs.Places.{queue_of}
 use Rattle.queue.specs.Results.{send_number, receive_number, receive_handle}
 use Rattle.exports.specs.declared.replies.HandleReply.{HandleReply}
@@ -16,7 +15,7 @@ use Rattle.exports.specs.HeapReplies.{no_handle}
 use Rattle.exports.specs.QueueReplies.{sent_in, received_in}
 
 send_rows : map send_number
-    (Sent ∷ Refused Damaged ∷ Refused Full ∷ Refused (Heap NotHeld) ∷ Refused (Heap NotPermitted) ∷ [])
+    (Ok tt ∷ Err Damaged ∷ Err Full ∷ Err (Heap NotHeld) ∷ Err (Heap NotPermitted) ∷ [])
     ≡ 0 ∷ 53 ∷ 51 ∷ 6 ∷ 12 ∷ []
 unfolding send_number
 send_rows = refl
@@ -24,10 +23,10 @@ send_rows = refl
 some_handle : Handle
 some_handle = record { base = 8; length = 16; serial = 3 }
 
-told : ReceiveAnswer → HandleReply
+told : Result Handle QueueRefusal → HandleReply
 told a = record { refusal = receive_number a; handle = receive_handle a }
 
-receive_rows : map told (Given some_handle ∷ NotGiven Empty ∷ NotGiven Damaged ∷ [])
+receive_rows : map told (Ok some_handle ∷ Err Empty ∷ Err Damaged ∷ [])
     ≡ record { refusal = 0; handle = some_handle } ∷ no_handle 52 ∷ no_handle 53 ∷ []
 unfolding told receive_number receive_handle
 receive_rows = refl

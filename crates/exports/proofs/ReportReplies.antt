@@ -4,12 +4,12 @@ use mathlib.Core.Path.{◌≡◌, refl, ap, sym, ◌∙◌}
 use mathlib.Core.List.{List, [], ◌∷◌}
 use lib.ListN.{replicate}
 use Prim.Native.Nat.{ℕ}
+use Rattle.std.specs.Prelude.{Result, Ok, Err}
 use Rattle.report.specs.Import.{ImportTold, taken, bad_at, grants_told, import_told}
 use Rattle.report.specs.Export.{Written, ExportTold, text_told}
 use Rattle.report.specs.declared.Imported.{Imported}
 use Rattle.report.specs.declared.ReportRefusal.TheVariants.{Character, Reserved, TooMany, Room}
-use Rattle.report.specs.declared.ExportAnswer.{ExportAnswer}
-use Rattle.report.specs.declared.ExportAnswer.TheVariants.{Exported, Refused}
+use Rattle.report.specs.declared.ReportRefusal.{ReportRefusal}
 use Rattle.report.proofs.Answers.{import_told_injective, export_told_injective}
 use Rattle.exports.specs.declared.reports.ImportReply.{ImportReply}
 use Rattle.exports.specs.declared.reports.ExportReply.{ExportReply}
@@ -26,8 +26,8 @@ import_rows : (import_reply (import_told (taken (7 ∷ replicate 31 0)))
 unfolding grants_told
 import_rows = (refl, refl, refl, refl)
 
-export_rows : (export_reply (text_told (1 ∷ []) (Exported 1728)) ≡ record { refusal = 0; length = 1728 })
-    × (export_reply (text_told [] (Refused Room)) ≡ record { refusal = 34; length = 0 })
+export_rows : (export_reply (text_told (1 ∷ []) (Ok 1728)) ≡ record { refusal = 0; length = 1728 })
+    × (export_reply (text_told [] (Err Room)) ≡ record { refusal = 34; length = 0 })
 unfolding text_told
 export_rows = (refl, refl)
 
@@ -42,12 +42,12 @@ import_reply_injective x y e = import_told_injective x y (ap import_from e)
 abbrev export_from : List ℕ → ExportReply → ExportTold
 export_from t r = record { text = t; refusal = r.refusal; length = r.length }
 
-export_back : (t : List ℕ) (a : ExportAnswer) → export_from t (export_reply (text_told t a)) ≡ text_told t a
+export_back : (t : List ℕ) (a : Result ℕ ReportRefusal) → export_from t (export_reply (text_told t a)) ≡ text_told t a
 unfolding text_told
-export_back t (Exported n) = refl
-export_back t (Refused r) = refl
+export_back t (Ok n) = refl
+export_back t (Err r) = refl
 
-pub export_reply_injective : (t : List ℕ) (a b : ExportAnswer)
+pub export_reply_injective : (t : List ℕ) (a b : Result ℕ ReportRefusal)
     → export_reply (text_told t a) ≡ export_reply (text_told t b) → a ≡ b
 export_reply_injective t a b e =
     ap (λ (w : Written). w.answer)

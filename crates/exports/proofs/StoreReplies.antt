@@ -3,15 +3,12 @@
 use Prim.Native.Nat.{ℕ, zero, suc}
 use mathlib.Core.Path.{◌≡◌, refl, ap, sym, ◌∙◌}
 use mathlib.Core.List.{List, [], ◌∷◌, map}
-use mathlib.Core.Option.{Option, none, some}
+use Rattle.std.specs.Prelude.{Result, Ok, Err, Some, None, Option}
 use Rattle.settings.specs.declared.Entry.{Entry}
 use Rattle.settings.specs.declared.SettingsRefusal.TheVariants.{Malformed, Missing, ValueLength, VersionFalls, Full}
 use Rattle.settings.specs.declared.Place.{Place}
-use Rattle.settings.specs.declared.Place.TheVariants.{Board, Default, Refused}
-use Rattle.settings.specs.declared.AddAnswer.{AddAnswer}
-use Rattle.settings.specs.declared.AddAnswer.TheVariants.{Added, Refused as NotAdded}
-use Rattle.settings.specs.declared.NthEntry.{NthEntry}
-use Rattle.settings.specs.declared.NthEntry.TheVariants.{There, End, Malformed as NoEntry}
+use Rattle.settings.specs.declared.Place.TheVariants.{Board, Default}
+use Rattle.settings.specs.declared.SettingsRefusal.{SettingsRefusal}
 use Rattle.settings.specs.Entries.{EntryTold, entry_told}
 use Rattle.settings.specs.Find.{Located, located}
 use Rattle.settings.specs.Add.{AddedTo, added_to}
@@ -24,9 +21,9 @@ use Rattle.exports.specs.StoreReplies.{find_reply, add_reply, entry_with, entry_
 found : ℕ → ℕ → ℕ → ℕ → FindReply
 found r s from to = record { refusal = r; store = s; start = from; end = to }
 
-find_rows : map (λ (p : Place). find_reply (located p))
-    (Board (record { start = 4; end = 9 }) ∷ Default (record { start = 8; end = 8 }) ∷ Refused Malformed
-    ∷ Refused Missing ∷ [])
+find_rows : map (λ (p : Result Place SettingsRefusal). find_reply (located p))
+    (Ok (Board (record { start = 4; end = 9 })) ∷ Ok (Default (record { start = 8; end = 8 })) ∷ Err Malformed
+    ∷ Err Missing ∷ [])
     ≡ found 0 1 4 9 ∷ found 0 2 8 8 ∷ found 41 0 0 0 ∷ found 42 0 0 0 ∷ []
 unfolding found located
 find_rows = refl
@@ -34,8 +31,8 @@ find_rows = refl
 added : ℕ → ℕ → AddReply
 added r n = record { refusal = r; used = n }
 
-add_rows : map (λ (a : AddAnswer). add_reply (added_to [] a))
-    (Added 68 ∷ NotAdded Malformed ∷ NotAdded ValueLength ∷ NotAdded VersionFalls ∷ NotAdded Full ∷ [])
+add_rows : map (λ (a : Result ℕ SettingsRefusal). add_reply (added_to [] a))
+    (Ok 68 ∷ Err Malformed ∷ Err ValueLength ∷ Err VersionFalls ∷ Err Full ∷ [])
     ≡ added 0 68 ∷ added 41 0 ∷ added 43 0 ∷ added 44 0 ∷ added 45 0 ∷ []
 unfolding added added_to
 add_rows = refl
@@ -43,8 +40,8 @@ add_rows = refl
 entry : ℕ → ℕ → ℕ → ℕ → ℕ → ℕ → EntryReply
 entry r t v n from to = record { refusal = r; there = t; version = v; name = n; start = from; end = to }
 
-entry_rows : map (λ (a : NthEntry). entry_reply (entry_told a))
-    (There (record { version = 513; name = 7; start = 4; end = 6 }) ∷ End ∷ NoEntry ∷ [])
+entry_rows : map (λ (a : Result (Option Entry) SettingsRefusal). entry_reply (entry_told a))
+    (Ok (Some (record { version = 513; name = 7; start = 4; end = 6 })) ∷ Ok None ∷ Err Malformed ∷ [])
     ≡ entry 0 1 513 7 4 6 ∷ entry 0 0 0 0 0 0 ∷ entry 41 0 0 0 0 0 ∷ []
 unfolding entry entry_told
 entry_rows = refl
@@ -53,35 +50,35 @@ entry_rows = refl
 abbrev located_from : FindReply → Located
 located_from r = record { refusal = r.refusal; store = r.store; start = r.start; end = r.end }
 
-pub find_reply_injective : (a b : Place) → find_reply (located a) ≡ find_reply (located b) → a ≡ b
+pub find_reply_injective : (a b : Result Place SettingsRefusal) → find_reply (located a) ≡ find_reply (located b) → a ≡ b
 find_reply_injective a b e = located_injective a b (ap located_from e)
 
 -- the store is no part of the reply
 abbrev stored_with : List ℕ → AddReply → AddedTo
 stored_with s r = record { store = s; refusal = r.refusal; used = r.used }
 
-stored_back : (s : List ℕ) (a : AddAnswer) → stored_with s (add_reply (added_to s a)) ≡ added_to s a
+stored_back : (s : List ℕ) (a : Result ℕ SettingsRefusal) → stored_with s (add_reply (added_to s a)) ≡ added_to s a
 unfolding added_to
-stored_back s (Added n) = refl
-stored_back s (NotAdded r) = refl
+stored_back s (Ok n) = refl
+stored_back s (Err r) = refl
 
-pub add_reply_injective : (s : List ℕ) (a b : AddAnswer) → add_reply (added_to s a) ≡ add_reply (added_to s b) → a ≡ b
+pub add_reply_injective : (s : List ℕ) (a b : Result ℕ SettingsRefusal) → add_reply (added_to s a) ≡ add_reply (added_to s b) → a ≡ b
 add_reply_injective s a b e =
     (added_to_injective s s a b (sym (stored_back s a) ∙ ap (stored_with s) e ∙ stored_back s b)).1
 
 entry_of : ℕ → EntryReply → Option Entry
-entry_of zero r = none
-entry_of (suc n) r = some (record { version = r.version; name = r.name; start = r.start; end = r.end })
+entry_of zero r = None
+entry_of (suc n) r = Some (record { version = r.version; name = r.name; start = r.start; end = r.end })
 
 abbrev told_from : EntryReply → EntryTold
 told_from r = record { refusal = r.refusal; found = entry_of r.there r }
 
 told_back : (n : ℕ) (o : Option Entry) → told_from (entry_with n o) ≡ record { refusal = n; found = o }
 unfolding entry_of
-told_back n none = refl
-told_back n (some e) = refl
+told_back n None = refl
+told_back n (Some e) = refl
 
-pub entry_reply_injective : (a b : NthEntry) → entry_reply (entry_told a) ≡ entry_reply (entry_told b) → a ≡ b
+pub entry_reply_injective : (a b : Result (Option Entry) SettingsRefusal) → entry_reply (entry_told a) ≡ entry_reply (entry_told b) → a ≡ b
 entry_reply_injective a b e =
     let x = entry_told a in
     let y = entry_told b in

@@ -1,14 +1,11 @@
 -- The numbers of a comparison's answer, and what a position's numbers mean.
-use Rattle.std.specs.Prelude.{ℕ, cond, eqb}
-use Rattle.std.proofs.Math.Option.{Option, none, some}
+use Rattle.std.specs.Prelude.{ℕ, cond, eqb, Option, Some, None}
 use Rattle.comparison.specs.declared.Difference.{Difference}
 use Rattle.comparison.specs.declared.Difference.TheVariants.{LastSerial, Kind, Edition, Quota as QuotaAt, Record as RecordAt, Bytes}
 use Rattle.comparison.specs.declared.Which.{Which}
 use Rattle.comparison.specs.declared.Which.TheVariants.{First, Second, Neither}
 use Rattle.comparison.specs.declared.Position.{Position}
 use Rattle.comparison.specs.declared.Position.TheVariants.{Start, Kind as FromKind, Edition as FromEdition, Quota, Record, Byte}
-use Rattle.comparison.specs.declared.Step.{Step}
-use Rattle.comparison.specs.declared.Step.TheVariants.{Differs, Nothing}
 use Rattle.comparison.specs.Compare.{Compared, Advanced}
 use Rattle.exports.specs.declared.comparisons.CompareReply.{CompareReply}
 use Rattle.exports.specs.declared.comparisons.NextReply.{NextReply}
@@ -46,8 +43,8 @@ length_number (Bytes at n) = n
 
 -- the reply of compare: zeros where there is no difference
 abbrev pub reply_with : ℕ → ℕ → Option Difference → CompareReply
-reply_with r w none = record { refusal = r; which = w; kind = 0; place = 0; length = 0 }
-reply_with r w (some d) = record { refusal = r; which = w; kind = difference_number d; place = place_number d; length = length_number d }
+reply_with r w None = record { refusal = r; which = w; kind = 0; place = 0; length = 0 }
+reply_with r w (Some d) = record { refusal = r; which = w; kind = difference_number d; place = place_number d; length = length_number d }
 
 abbrev pub compare_reply : Compared → CompareReply
 compare_reply c = reply_with c.refusal (which_number c.which) c.found
@@ -75,8 +72,8 @@ place_in (Record p) = p
 place_in (Byte at) = at
 
 -- the reply of the next difference: its numbers and those of the position behind it, zeros where there is none
-abbrev pub step_reply : ℕ → ℕ → Step → NextReply
-step_reply r w (Differs d p) =
+abbrev pub step_reply : ℕ → ℕ → Option (Difference × Position) → NextReply
+step_reply r w (Some (d, p)) =
     record {
       refusal = r;
       which = w;
@@ -86,7 +83,7 @@ step_reply r w (Differs d p) =
       part = part_number p;
       at = place_in p;
     }
-step_reply r w Nothing = record { refusal = r; which = w; kind = 0; place = 0; length = 0; part = 0; at = 0 }
+step_reply r w None = record { refusal = r; which = w; kind = 0; place = 0; length = 0; part = 0; at = 0 }
 
 abbrev pub next_reply : Advanced → NextReply
 next_reply c = step_reply c.refusal (which_number c.which) c.step

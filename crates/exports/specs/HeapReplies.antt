@@ -1,7 +1,6 @@
 -- What the numbers of a heap's replies mean: the values of `model`, and with heap and words at exit the outcome. Values
 -- that a reply has no number for are zero or none.
-use Rattle.std.specs.Prelude.{ℕ, zero, suc, ◌≡◌, List, cond, eqb}
-use Rattle.std.proofs.Math.Option.{Option, none, some}
+use Rattle.std.specs.Prelude.{ℕ, zero, suc, ◌≡◌, List, cond, eqb, Option, Some, None}
 use Rattle.accounts.specs.declared.Accounts.{Accounts}
 use Rattle.accounts.specs.declared.settings.Kind.{Kind}
 use Rattle.accounts.specs.declared.settings.Kind.TheVariants.{Plain, Quarantine}
@@ -41,7 +40,7 @@ left s w v = outcome s (accounts_of w) v
 -- allocate, allocate array and reallocate
 abbrev pub handle_numbers : HandleReply → Values
 handle_numbers r =
-    record { refusal = r.refusal; handle = r.handle; amount = 0; range = zero_range; block = none }
+    record { refusal = r.refusal; handle = r.handle; amount = 0; range = zero_range; block = None }
 
 abbrev pub no_handle : ℕ → HandleReply
 no_handle n = record { refusal = n; handle = zero_handle }
@@ -49,7 +48,7 @@ no_handle n = record { refusal = n; handle = zero_handle }
 -- claim, release, free-all, clear permissions, sweep and remaining
 abbrev pub amount_numbers : AmountReply → Values
 amount_numbers r =
-    record { refusal = r.refusal; handle = zero_handle; amount = r.amount; range = zero_range; block = none }
+    record { refusal = r.refusal; handle = zero_handle; amount = r.amount; range = zero_range; block = None }
 
 -- lend
 abbrev pub range_numbers : RangeReply → Values
@@ -59,13 +58,13 @@ range_numbers r =
       handle = zero_handle;
       amount = 0;
       range = record { start = r.start; end = r.end };
-      block = none;
+      block = None;
     }
 
 -- the listing: no block where found is 0
 unfoldable pub found_block : ℕ → ListedBlock → Option ListedBlock
-found_block zero b = none
-found_block (suc n) b = some b
+found_block zero b = None
+found_block (suc n) b = Some b
 
 abbrev pub block_in : BlockReply → Option ListedBlock
 block_in r = found_block r.found (record { offset = r.offset; size = r.size; serial = r.serial })
@@ -76,8 +75,8 @@ block_numbers r =
 
 -- the numbers that say whether there is a block, and which: 1 and the block's, or zeros
 unfoldable pub reply_with : ℕ → Option ListedBlock → BlockReply
-reply_with n none = record { refusal = n; found = 0; offset = 0; size = 0; serial = 0 }
-reply_with n (some b) =
+reply_with n None = record { refusal = n; found = 0; offset = 0; size = 0; serial = 0 }
+reply_with n (Some b) =
     record { refusal = n; found = 1; offset = b.offset; size = b.size; serial = b.serial }
 
 -- found is 0 or 1, and where it is 0 the block's numbers are zero

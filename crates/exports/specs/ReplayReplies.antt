@@ -1,8 +1,7 @@
 -- The numbers of a reply, for each answer of a replay.
-use Rattle.replay_text.specs.declared.Replayed.{Replayed}
-use Rattle.replay_text.specs.declared.Replayed.TheVariants.{Written, TooShort}
+use Rattle.std.specs.Prelude.{ℕ, Option, Some, None}
 use Rattle.exports.specs.declared.replays.ReplayReply.{ReplayReply}
 
-unfoldable pub reply_of : Replayed → ReplayReply
-reply_of (Written n) = record { done = 1; length = n }
-reply_of TooShort = record { done = 0; length = 0 }
+unfoldable pub reply_of : Option ℕ → ReplayReply
+reply_of (Some n) = record { done = 1; length = n }
+reply_of None = record { done = 0; length = 0 }

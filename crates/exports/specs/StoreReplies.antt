@@ -1,6 +1,5 @@
 -- The numbers of a store's answers.
-use Rattle.std.specs.Prelude.{ℕ}
-use Rattle.std.proofs.Math.Option.{Option, none, some}
+use Rattle.std.specs.Prelude.{ℕ, Option, Some, None}
 use Rattle.settings.specs.declared.Entry.{Entry}
 use Rattle.settings.specs.Entries.{EntryTold}
 use Rattle.settings.specs.Find.{Located}
@@ -17,8 +16,8 @@ add_reply a = record { refusal = a.refusal; used = a.used }
 
 -- zeros where there is no entry
 abbrev pub entry_with : ℕ → Option Entry → EntryReply
-entry_with r none = record { refusal = r; there = 0; version = 0; name = 0; start = 0; end = 0 }
-entry_with r (some e) =
+entry_with r None = record { refusal = r; there = 0; version = 0; name = 0; start = 0; end = 0 }
+entry_with r (Some e) =
     record { refusal = r; there = 1; version = e.version; name = e.name; start = e.start; end = e.end }
 
 abbrev pub entry_reply : EntryTold → EntryReply

@@ -4,7 +4,8 @@ ghost use Rattle.comparison.specs.Compare.{compared, advanced, compare_of, advan
 ghost use Rattle.exports.specs.ComparisonReplies.{which_number, difference_number, place_number, length_number};
 ghost use Rattle.exports.specs.ComparisonReplies.{compare_reply, position_of, part_number, place_in, next_reply};
 
-use comparison::{CompareAnswer, Difference, NextAnswer, Position, Which};
+use comparison::{Difference, Position, Which};
+use image_model::ImageRefusal;
 
 // What compare gives: the refusal's number, 0 where there is none; which image it is about, 1 or 2, 0 for neither; and
 // the difference. Its kind is 0 for none, 1 for the last serial, 2 for a quota, 3 for a hold record, 4 for a run of heap
@@ -87,25 +88,25 @@ fn length_of(difference: Difference) -> usize
 }
 
 // The reply of compare.
-fn reply_of_compare(answer: CompareAnswer) -> CompareReply
+fn reply_of_compare(answer: Result<Option<Difference>, (ImageRefusal, Which)>) -> CompareReply
     ensures { result ≡ compare_reply (compared answer) }
 {
     match answer {
-        CompareAnswer::Differs(difference) => CompareReply {
+        Ok(Some(difference)) => CompareReply {
             refusal: 0,
             which: 0,
             kind: kind_of(difference),
             place: place_of(difference),
             length: length_of(difference),
         },
-        CompareAnswer::Nothing => CompareReply {
+        Ok(None) => CompareReply {
             refusal: 0,
             which: 0,
             kind: 0,
             place: 0,
             length: 0,
         },
-        CompareAnswer::Refused(refusal, which) => CompareReply {
+        Err((refusal, which)) => CompareReply {
             refusal: refusal.number(),
             which: number_of_which(which),
             kind: 0,
@@ -165,11 +166,11 @@ fn place_in(from: Position) -> usize
 }
 
 // The reply of the next difference.
-fn reply_of_next(answer: NextAnswer) -> NextReply
+fn reply_of_next(answer: Result<Option<(Difference, Position)>, (ImageRefusal, Which)>) -> NextReply
     ensures { result ≡ next_reply (advanced answer) }
 {
     match answer {
-        NextAnswer::Differs(difference, behind) => NextReply {
+        Ok(Some((difference, behind))) => NextReply {
             refusal: 0,
             which: 0,
             kind: kind_of(difference),
@@ -178,7 +179,7 @@ fn reply_of_next(answer: NextAnswer) -> NextReply
             part: part_of(behind),
             at: place_in(behind),
         },
-        NextAnswer::Nothing => NextReply {
+        Ok(None) => NextReply {
             refusal: 0,
             which: 0,
             kind: 0,
@@ -187,7 +188,7 @@ fn reply_of_next(answer: NextAnswer) -> NextReply
             part: 0,
             at: 0,
         },
-        NextAnswer::Refused(refusal, which) => NextReply {
+        Err((refusal, which)) => NextReply {
             refusal: refusal.number(),
             which: number_of_which(which),
             kind: 0,

@@ -10,8 +10,7 @@ ghost use Rattle.image.specs.Restoring.{Left};
 ghost use Rattle.conversion.specs.Moves.{move_up, move_down};
 ghost use Rattle.exports.specs.ImageReplies.{image_reply, read_into, examine_reply, examine};
 
-use image::Shape;
-use image_model::{ReadAnswer, WriteAnswer};
+use image_model::{Form, ImageRefusal};
 use words::WORDS;
 
 // What the writer and a move give: how many bytes they wrote.
@@ -32,15 +31,15 @@ pub struct ExamineReply {
 }
 
 // The reply of the writer.
-fn reply_of_write(answer: WriteAnswer) -> ImageReply
+fn reply_of_write(answer: Result<usize, ImageRefusal>) -> ImageReply
     ensures { (o : List ℕ) → image_reply o result ≡ imaged o answer }
 {
     match answer {
-        WriteAnswer::Written(length) => ImageReply {
+        Ok(length) => ImageReply {
             refusal: 0,
             length: length,
         },
-        WriteAnswer::Refused(refusal) => ImageReply {
+        Err(refusal) => ImageReply {
             refusal: refusal.number(),
             length: 0,
         },
@@ -48,26 +47,26 @@ fn reply_of_write(answer: WriteAnswer) -> ImageReply
 }
 
 // The reader's refusal as its number, 0 where there is none.
-fn number_of_read(answer: ReadAnswer) -> u32
+fn number_of_read(answer: Result<(), ImageRefusal>) -> u32
     ensures { (s : List ℕ) (k : Accounts) → record { heap = s; accounts = k; refusal = result } ≡ restored_to s k answer }
 {
     match answer {
-        ReadAnswer::Restored => 0,
-        ReadAnswer::Refused(refusal) => refusal.number(),
+        Ok(()) => 0,
+        Err(refusal) => refusal.number(),
     }
 }
 
 // The reply on an image's own bytes.
-fn reply_of_shape(shape: Shape) -> ExamineReply
+fn reply_of_shape(shape: Result<(Form, usize), ImageRefusal>) -> ExamineReply
     ensures { (k : Accounts) → result ≡ examine_reply (shape_parts shape k) }
 {
     match shape {
-        Shape::Image(form, size) => ExamineReply {
+        Ok((form, size)) => ExamineReply {
             refusal: 0,
             form: form.number,
             heap_length: size,
         },
-        Shape::Refused(refusal) => ExamineReply {
+        Err(refusal) => ExamineReply {
             refusal: refusal.number(),
             form: 0,
             heap_length: 0,

@@ -9,29 +9,29 @@ ghost use Rattle.exports.specs.QueueReplies.{sent_in, received_in};
 
 use crate::replies::{HandleReply, no_handle};
 use model::Handle;
-use queue::{QUEUE_WORDS, Queue, ReceiveAnswer, SendAnswer};
+use queue::{QUEUE_WORDS, Queue, QueueRefusal};
 use words::WORDS;
 
 // The refusal's number, 0 where the handle is sent.
-fn number_of_send(answer: SendAnswer) -> u32
+fn number_of_send(answer: Result<(), QueueRefusal>) -> u32
     ensures { result ≡ send_number answer }
 {
     match answer {
-        SendAnswer::Sent => 0,
-        SendAnswer::Refused(refusal) => refusal.number(),
+        Ok(()) => 0,
+        Err(refusal) => refusal.number(),
     }
 }
 
 // The reply of receive.
-fn reply_of_receive(answer: ReceiveAnswer) -> HandleReply
+fn reply_of_receive(answer: Result<Handle, QueueRefusal>) -> HandleReply
     ensures { result ≡ record { refusal = receive_number answer; handle = receive_handle answer } }
 {
     match answer {
-        ReceiveAnswer::Given(handle) => HandleReply {
+        Ok(handle) => HandleReply {
             refusal: 0,
             handle: handle,
         },
-        ReceiveAnswer::Refused(refusal) => no_handle(refusal.number()),
+        Err(refusal) => no_handle(refusal.number()),
     }
 }
 

@@ -3,8 +3,6 @@ ghost use Rattle.std.specs.Prelude.{◌≡◌};
 ghost use Rattle.replay_text.specs.Answer.{replayed};
 ghost use Rattle.exports.specs.ReplayReplies.{reply_of};
 
-use replay_text::Replayed;
-
 // What the replay gives: done is 1 and length the bytes that are written, or both are 0 where the output is too short.
 #[repr(C)]
 #[derive(Clone, Copy)]
@@ -20,7 +18,7 @@ pub extern "C" fn lokhazim_replay(input: &[u8], output: &mut [u8]) -> ReplayRepl
     ensures replies { result ≡ reply_of (replayed input.now output.old).answer }
     ensures prints { output.new ≡ (replayed input.now output.old).output }
 {
-    let Replayed::Written(count) = replay_text::replay(input, output) else {
+    let Some(count) = replay_text::replay(input, output) else {
         return ReplayReply { done: 0, length: 0 };
     };
     ReplayReply {

@@ -5,7 +5,7 @@ ghost use Rattle.exports.specs.HeapReplies.{no_handle, handle_numbers, amount_nu
 ghost use Rattle.exports.specs.HeapReplies.{block_numbers, Exact};
 
 use accounts::QUOTAS;
-use model::{AmountAnswer, BlockAnswer, Handle, HandleAnswer, RangeAnswer, Verdict};
+use model::{Handle, ListedBlock, Range, Refusal};
 
 // What each quota is granted: an array goes by value only inside a struct.
 #[repr(C)]
@@ -51,12 +51,12 @@ pub struct BlockReply {
 }
 
 // The refusal's number, 0 where there is none.
-pub(crate) fn number_of(verdict: Verdict) -> u32
+pub(crate) fn number_of(verdict: Result<(), Refusal>) -> u32
     ensures { refused result ≡ verdict_values verdict }
 {
     match verdict {
-        Verdict::Accepted => 0,
-        Verdict::Refused(refusal) => refusal.number(),
+        Ok(()) => 0,
+        Err(refusal) => refusal.number(),
     }
 }
 
@@ -75,28 +75,28 @@ pub(crate) fn no_handle(refusal: u32) -> HandleReply
 }
 
 // The reply of a call that gives a handle.
-pub(crate) fn reply_of_handle(answer: HandleAnswer) -> HandleReply
+pub(crate) fn reply_of_handle(answer: Result<Handle, Refusal>) -> HandleReply
     ensures { handle_numbers result ≡ handle_values answer }
 {
     match answer {
-        HandleAnswer::Given(handle) => HandleReply {
+        Ok(handle) => HandleReply {
             refusal: 0,
             handle: handle,
         },
-        HandleAnswer::Refused(refusal) => no_handle(refusal.number()),
+        Err(refusal) => no_handle(refusal.number()),
     }
 }
 
 // The reply of a call that gives an amount.
-pub(crate) fn reply_of_amount(answer: AmountAnswer) -> AmountReply
+pub(crate) fn reply_of_amount(answer: Result<u32, Refusal>) -> AmountReply
     ensures { amount_numbers result ≡ amount_values answer }
 {
     match answer {
-        AmountAnswer::Amount(amount) => AmountReply {
+        Ok(amount) => AmountReply {
             refusal: 0,
             amount: amount,
         },
-        AmountAnswer::Refused(refusal) => AmountReply {
+        Err(refusal) => AmountReply {
             refusal: refusal.number(),
             amount: 0,
         },
@@ -104,16 +104,16 @@ pub(crate) fn reply_of_amount(answer: AmountAnswer) -> AmountReply
 }
 
 // The reply of lend.
-pub(crate) fn reply_of_range(answer: RangeAnswer) -> RangeReply
+pub(crate) fn reply_of_range(answer: Result<Range, Refusal>) -> RangeReply
     ensures { range_numbers result ≡ range_values answer }
 {
     match answer {
-        RangeAnswer::Lent(range) => RangeReply {
+        Ok(range) => RangeReply {
             refusal: 0,
             start: range.start,
             end: range.end,
         },
-        RangeAnswer::Refused(refusal) => RangeReply {
+        Err(refusal) => RangeReply {
             refusal: refusal.number(),
             start: 0,
             end: 0,
@@ -135,19 +135,19 @@ fn no_block(refusal: u32) -> BlockReply
 }
 
 // The reply of a step of the listing.
-pub(crate) fn reply_of_block(answer: BlockAnswer) -> BlockReply
+pub(crate) fn reply_of_block(answer: Result<Option<ListedBlock>, Refusal>) -> BlockReply
     ensures answers { block_numbers result ≡ block_values answer }
     ensures zeros { Exact result }
 {
     match answer {
-        BlockAnswer::Listed(block) => BlockReply {
+        Ok(Some(block)) => BlockReply {
             refusal: 0,
             found: 1,
             offset: block.offset,
             size: block.size,
             serial: block.serial,
         },
-        BlockAnswer::NoBlock => no_block(0),
-        BlockAnswer::Refused(refusal) => no_block(refusal.number()),
+        Ok(None) => no_block(0),
+        Err(refusal) => no_block(refusal.number()),
     }
 }

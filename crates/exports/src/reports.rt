@@ -5,7 +5,7 @@ ghost use Rattle.report.specs.Export.{export_of, export_told, text_told};
 ghost use Rattle.exports.specs.ReportReplies.{import_reply, export_reply};
 
 use crate::replies::Grants;
-use report::{ExportAnswer, ImportAnswer, Imported};
+use report::{Imported, ReportRefusal};
 
 // What import gives: the grants, all zero where the text is refused; the refusal's number, 0 where there is none; and the
 // number of the first bad line, from 1, 0 where there is none.
@@ -26,32 +26,33 @@ pub struct ExportReply {
 }
 
 // The reply of import.
+#[tactic(auto, unfolding(report::specs::Import::grants_told))]
 fn reply_of_import(imported: Imported) -> ImportReply
     ensures { result ≡ import_reply (import_told imported) }
 {
     let values = imported.grants;
-    let answer = imported.answer;
-    match answer {
-        ImportAnswer::Accepted => ImportReply {
+    match imported.answer {
+        Ok(()) => ImportReply {
             grants: Grants { values },
             refusal: 0,
             line: 0,
         },
-        ImportAnswer::Refused(refusal, line) => ImportReply {
+        Err(bad) => ImportReply {
             grants: Grants { values },
-            refusal: refusal.number(),
-            line,
+            refusal: bad.refusal.number(),
+            line: bad.line,
         },
     }
 }
 
 // The reply of export.
-fn reply_of_export(answer: ExportAnswer) -> ExportReply
+#[tactic(auto, unfolding(report::specs::Export::text_told))]
+fn reply_of_export(answer: Result<usize, ReportRefusal>) -> ExportReply
     ensures { (t : List ℕ) → result ≡ export_reply (text_told t answer) }
 {
     match answer {
-        ExportAnswer::Exported(length) => ExportReply { refusal: 0, length },
-        ExportAnswer::Refused(refusal) => ExportReply {
+        Ok(length) => ExportReply { refusal: 0, length },
+        Err(refusal) => ExportReply {
             refusal: refusal.number(),
             length: 0,
         },

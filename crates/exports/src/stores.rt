@@ -5,7 +5,7 @@ ghost use Rattle.settings.specs.Find.{find, located};
 ghost use Rattle.settings.specs.Add.{add_of, add_told, added_to};
 ghost use Rattle.exports.specs.StoreReplies.{find_reply, add_reply, entry_reply};
 
-use settings::{AddAnswer, NthEntry, Place};
+use settings::{Entry, Place, SettingsRefusal};
 
 // What find gives: the store in which the value lies, 1 for the board's and 2 for the defaults, and the value's start and
 // end in it.
@@ -39,23 +39,24 @@ pub struct EntryReply {
 }
 
 // The reply of find.
-fn reply_of_find(place: Place) -> FindReply
+#[tactic(auto, unfolding(settings::specs::Find::located))]
+fn reply_of_find(place: Result<Place, SettingsRefusal>) -> FindReply
     ensures { result ≡ find_reply (located place) }
 {
     match place {
-        Place::Board(span) => FindReply {
+        Ok(Place::Board(span)) => FindReply {
             refusal: 0,
             store: 1,
             start: span.start,
             end: span.end,
         },
-        Place::Default(span) => FindReply {
+        Ok(Place::Default(span)) => FindReply {
             refusal: 0,
             store: 2,
             start: span.start,
             end: span.end,
         },
-        Place::Refused(refusal) => FindReply {
+        Err(refusal) => FindReply {
             refusal: refusal.number(),
             store: 0,
             start: 0,
@@ -65,15 +66,16 @@ fn reply_of_find(place: Place) -> FindReply
 }
 
 // The reply of add.
-fn reply_of_add(answer: AddAnswer) -> AddReply
+#[tactic(auto, unfolding(settings::specs::Add::added_to))]
+fn reply_of_add(answer: Result<usize, SettingsRefusal>) -> AddReply
     ensures { (s : List ℕ) → result ≡ add_reply (added_to s answer) }
 {
     match answer {
-        AddAnswer::Added(used) => AddReply {
+        Ok(used) => AddReply {
             refusal: 0,
             used: used,
         },
-        AddAnswer::Refused(refusal) => AddReply {
+        Err(refusal) => AddReply {
             refusal: refusal.number(),
             used: 0,
         },
@@ -81,11 +83,12 @@ fn reply_of_add(answer: AddAnswer) -> AddReply
 }
 
 // The reply of an entry.
-fn reply_of_entry(answer: NthEntry) -> EntryReply
+#[tactic(auto, unfolding(settings::specs::Entries::entry_told))]
+fn reply_of_entry(answer: Result<Option<Entry>, SettingsRefusal>) -> EntryReply
     ensures { result ≡ entry_reply (entry_told answer) }
 {
     match answer {
-        NthEntry::There(entry) => EntryReply {
+        Ok(Some(entry)) => EntryReply {
             refusal: 0,
             there: 1,
             version: entry.version,
@@ -93,7 +96,7 @@ fn reply_of_entry(answer: NthEntry) -> EntryReply
             start: entry.start,
             end: entry.end,
         },
-        NthEntry::End => EntryReply {
+        Ok(None) => EntryReply {
             refusal: 0,
             there: 0,
             version: 0,
@@ -101,8 +104,8 @@ fn reply_of_entry(answer: NthEntry) -> EntryReply
             start: 0,
             end: 0,
         },
-        NthEntry::Malformed => EntryReply {
-            refusal: 41,
+        Err(why) => EntryReply {
+            refusal: why.number(),
             there: 0,
             version: 0,
             name: 0,

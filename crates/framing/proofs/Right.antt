@@ -1,7 +1,6 @@
 -- What the numbers of a frame say, and of the frames behind it.
 use Rattle.std.proofs.Common.{◌≡◌, ℕ, suc, ◌+◌, ◌-◌, ◌*◌, ◌<◌, ◌≤◌, Bool, true, false, ◌&&◌, eqb, List, length, take, drop, sym, ◌∙◌, add-one, arith, drop-drop}
 use Rattle.std.proofs.Common.{eq-eqb, ne_eqb, le-leb}
-use native.Mathlib.Nat.{sub-zero}
 use Rattle.layout.specs.Bytes.{number, read_number}
 use Rattle.framing.proofs.Rows
 use Rattle.framing.specs.Frames.{check_of, frame_right, frames_right}
@@ -36,9 +35,6 @@ module _ (at : ℕ) (i : List ℕ) (h : at + 512 ≤ length i) where
 -- the frames from one on
 abbrev pub right_from : ℕ → ℕ → List ℕ → Bool
 right_from b n i = frames_right (n - b) b n (drop (512 * b) i)
-
-pub right_all : (n : ℕ) (i : List ℕ) → right_from 0 n i ≡ frames_right n 0 n i
-right_all n i = let z : 512 * 0 ≡ 0 = omega arith in rw (sub-zero n)
 
 pub right_more : (b n : ℕ) (i : List ℕ) → b < n → right_from b n i ≡ (frame_right b n (drop (512 * b) i) && right_from (b + 1) n i)
 unfolding frames_right

@@ -3,11 +3,11 @@ use Rattle.std.proofs.Common.{◌≡◌, ℕ, ◌+◌, ◌*◌, ◌/◌, ◌<◌
 use borrow.Author.Tests.{lt-leb}
 use Rattle.layout.specs.Bytes.{overwrite}
 use Rattle.framing.proofs.Rows
-use Rattle.framing.specs.declared.FrameAnswer.TheVariants.{Written, NoRoom}
+use Rattle.std.specs.Prelude.{Some, None}
 use Rattle.framing.specs.Frames.{cut, cut_from, frames_for, has_room, write_frames}
 
 -- the stream is longer than the longest
-pub too_long : (i head body : List ℕ) → 33029640 < length head + length body → record { image = i; answer = NoRoom } ≡ write_frames i (head ++ body)
+pub too_long : (i head body : List ℕ) → 33029640 < length head + length body → record { image = i; answer = None } ≡ write_frames i (head ++ body)
 unfolding write_frames has_room frames_for
 too_long i head body h =
     let n : 65536 ≤ (length (head ++ body) + 503) / 504 = simp length-append (omega arith) in
@@ -22,11 +22,11 @@ module _ (i head body : List ℕ) (n : ℕ) (h : length head + length body ≤ 3
   countable = lt-ltb n 65536 (omega arith)
 
   -- the image is too short
-  pub too_short : length i < 512 * n → record { image = i; answer = NoRoom } ≡ write_frames i (head ++ body)
+  pub too_short : length i < 512 * n → record { image = i; answer = None } ≡ write_frames i (head ++ body)
   unfolding write_frames has_room
   too_short l = rw (count, countable, lt-leb (512 * n) (length i) l)
 
   pub fits : (i' : List ℕ) → 512 * n ≤ length i → i' ≡ overwrite 0 (cut_from n 0 n (head ++ body)) i
-      → record { image = i'; answer = Written (512 * n) } ≡ write_frames i (head ++ body)
+      → record { image = i'; answer = Some (512 * n) } ≡ write_frames i (head ++ body)
   unfolding write_frames has_room cut
   fits i' l f = rw (count, countable, le-leb (512 * n) (length i) l, f)

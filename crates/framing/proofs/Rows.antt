@@ -1,7 +1,7 @@
 -- The definitions computed at small inputs, among them a stream that ends with a frame and one that does not.
 use Rattle.std.proofs.Common.{◌≡◌, ℕ, true, false, List, [], ◌∷◌, ◌++◌, take, drop, replicate, refl}
 use Rattle.layout.specs.Bytes.{bytes, number, overwrite}
-use Rattle.framing.specs.declared.FrameAnswer.TheVariants.{Written, NoRoom}
+use Rattle.std.specs.Prelude.{Some, None}
 use Rattle.framing.specs.Frames.{padded, word_sum, check_of, front_of, frame_of, cut_from, frames_for, cut, uncut, stream_of, frame_right, frames_right}
 use Rattle.framing.specs.Frames.{has_room, write_frames}
 
@@ -53,8 +53,8 @@ room_rows : (has_room 505 1024 ≡ true) × (has_room 505 1023 ≡ false) × (ha
 unfolding has_room frames_for
 room_rows = (refl, refl, refl, refl)
 
-write_rows : (write_frames (replicate 1026 9) stream ≡ record { image = image ++ (9 ∷ 9 ∷ []); answer = Written 1024 })
-    × (write_frames (replicate 1023 9) stream ≡ record { image = replicate 1023 9; answer = NoRoom })
-    × (write_frames (9 ∷ []) [] ≡ record { image = 9 ∷ []; answer = Written 0 })
+write_rows : (write_frames (replicate 1026 9) stream ≡ record { image = image ++ (9 ∷ 9 ∷ []); answer = Some 1024 })
+    × (write_frames (replicate 1023 9) stream ≡ record { image = replicate 1023 9; answer = None })
+    × (write_frames (9 ∷ []) [] ≡ record { image = 9 ∷ []; answer = Some 0 })
 unfolding write_frames has_room cut cut_from frames_for frame_of front_of padded check_of word_sum bytes number overwrite stream image
 write_rows = (refl, refl, refl)

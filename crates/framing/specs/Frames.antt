@@ -1,9 +1,8 @@
 -- A stream of bytes cut into frames of 512 ("blocks" in document 02; a block is here always one of a heap). A frame is its own number,
 -- how many frames there are, 504 bytes of the stream, and a sum that guards them (rules, section 13).
-use Rattle.std.specs.Prelude.{ℕ, zero, suc, ◌+◌, ◌*◌, ◌/◌, ◌%◌, ◌^◌, Bool, true, cond, ◌&&◌, List, [], ◌∷◌, ◌++◌, length, take, drop, ◌==◌, nat_le, nat_lt}
+use Rattle.std.specs.Prelude.{ℕ, zero, suc, ◌+◌, ◌*◌, ◌/◌, ◌%◌, ◌^◌, Bool, true, cond, ◌&&◌, List, [], ◌∷◌, ◌++◌}
+use Rattle.std.specs.Prelude.{length, take, drop, ◌==◌, nat_le, nat_lt, Option, Some, None}
 use Rattle.layout.specs.Bytes.{bytes, number, overwrite}
-use Rattle.framing.specs.declared.FrameAnswer.{FrameAnswer}
-use Rattle.framing.specs.declared.FrameAnswer.TheVariants.{Written, NoRoom}
 
 -- the first k bytes of s; zeros stand where s has no more
 unfoldable pub padded : ℕ → List ℕ → List ℕ
@@ -64,9 +63,9 @@ has_room bytes room = nat_lt (frames_for bytes) 65536 && nat_le (512 * frames_fo
 -- a stream written as frames: what the image is then, and what is answered
 pub record Framed : Type 0 where
   pub image : List ℕ
-  pub answer : FrameAnswer
+  pub answer : Option ℕ
 
 unfoldable pub write_frames : List ℕ → List ℕ → Framed
 write_frames i s =
     let n = frames_for (length s) in
-    cond (has_room (length s) (length i)) (record { image = overwrite 0 (cut s) i; answer = Written (512 * n) }) (record { image = i; answer = NoRoom })
+    cond (has_room (length s) (length i)) (record { image = overwrite 0 (cut s) i; answer = Some (512 * n) }) (record { image = i; answer = None })

@@ -5,17 +5,8 @@ ghost use Rattle.std.specs.Prelude.{◌≡◌, ◌+◌, ◌*◌, ◌/◌, ◌^�
 ghost use Rattle.layout.specs.Bytes.{overwrite};
 ghost use Rattle.framing.specs.Frames.{padded, check_of, frame_of, cut_from, stream_of, frame_right, frames_right, write_frames};
 
-use std::num::wrapping_add_u32;
-
 // The greatest length of a stream: 65,535 frames.
 const LONGEST: usize = 33029640;
-
-// How many bytes of an image were written; or there was no room in it, or the stream is longer than the longest.
-#[derive(Clone, Copy)]
-pub enum FrameAnswer {
-    Written(usize),
-    NoRoom,
-}
 
 // The byte at a place of a stream that is made of two parts, 0 behind its end.
 fn stream_byte(head: &[u8], body: &[u8], at: usize) -> u8
@@ -37,10 +28,8 @@ fn check_at(image: &[u8], at: usize) -> u32
     ensures { result ≡ check_of (drop at image.now) }
 {
     let mut sum: u32 = 0;
-    let mut i: usize = 0;
-    while i < 127 {
-        sum = wrapping_add_u32(sum, layout::read_u32(image, at + 4 * i));
-        i += 1;
+    for i in 0..127 {
+        sum = sum.wrapping_add(layout::read_u32(image, at + 4 * i));
     }
     sum
 }
@@ -50,10 +39,8 @@ fn fill(image: &mut [u8], to: usize, head: &[u8], body: &[u8], from: usize)
     requires { (to + 504 ≤ length image.old) × (from + 504 < 2 ^ 64) }
     ensures { image.new ≡ overwrite to (padded 504 (drop from (head.now ++ body.now))) image.old }
 {
-    let mut i: usize = 0;
-    while i < 504 {
+    for i in 0..504 {
         image[to + i] = stream_byte(head, body, from + i);
-        i += 1;
     }
 }
 
@@ -82,29 +69,29 @@ fn put_frames(image: &mut [u8], head: &[u8], body: &[u8], count: usize)
     requires { (512 * count ≤ length image.old) × (count < 65536) }
     ensures { image.new ≡ overwrite 0 (cut_from count 0 count (head.now ++ body.now)) image.old }
 {
-    let mut b: usize = 0;
-    while b < count {
+    for b in 0..count {
         write_frame(image, 512 * b, b as u32, count as u32, head, body, 504 * b);
-        b += 1;
     }
 }
 
-// The stream of two parts, written as frames from the image's first byte on; bytes behind the frames stay. Without room nothing is written.
-pub fn write_frames(image: &mut [u8], head: &[u8], body: &[u8]) -> FrameAnswer
+// The stream of two parts, written as frames from the image's first byte on; bytes behind the frames stay. The answer
+// is how many bytes were written. There is none, and nothing is written, where the image has no room or the stream is
+// longer than the longest.
+pub fn write_frames(image: &mut [u8], head: &[u8], body: &[u8]) -> Option<usize>
     ensures { record { image = image.exit.now; answer = result } ≡ write_frames image.entry.now (head.now ++ body.now) }
 {
     if LONGEST < head.len() {
-        return FrameAnswer::NoRoom;
+        return None;
     }
     if LONGEST - head.len() < body.len() {
-        return FrameAnswer::NoRoom;
+        return None;
     }
     let count = (head.len() + body.len() + 503) / 504;
     if image.len() < 512 * count {
-        return FrameAnswer::NoRoom;
+        return None;
     }
     put_frames(image, head, body, count);
-    FrameAnswer::Written(512 * count)
+    Some(512 * count)
 }
 
 // The byte at a place of an image's stream, 0 behind its end.
@@ -123,10 +110,8 @@ pub fn copy_stream(image: &[u8], from: u32, out: &mut [u8])
     ensures { out.new ≡ padded (length out.old) (drop from (stream_of image.now)) }
 {
     let start = from as usize;
-    let mut i: usize = 0;
-    while i < out.len() {
-        out[i] = stream_at(image, start + i);
-        i += 1;
+    for (i, byte) in out.iter_mut().enumerate() {
+        *byte = stream_at(image, start + i);
     }
 }
 
@@ -149,12 +134,10 @@ pub fn all_right(image: &[u8]) -> bool
     ensures { result ≡ frames_right (length image.now / 512) 0 (length image.now / 512) image.now }
 {
     let count = image.len() / 512;
-    let mut b: usize = 0;
-    while b < count {
+    for b in 0..count {
         if !is_right(image, 512 * b, b, count) {
             return false;
         }
-        b += 1;
     }
     true
 }

@@ -1,5 +1,6 @@
 -- Computed rows: lists of calls that the functions make. A plain heap with an allocation and two releases; and a heap
 -- of edition 2, whose table gives an object of 4,096 bytes the base 16.
+use Rattle.std.specs.Prelude.{Ok, Err}
 use Prim.Native.Nat.{ℕ, ◌-◌}
 use mathlib.Core.Path.{refl}
 use mathlib.Core.List.{List, [], ◌∷◌}
@@ -15,8 +16,6 @@ use Rattle.model.specs.Marked.{handle}
 use Rattle.model.specs.Step.{own_step, performed}
 use Rattle.model.specs.declared.Answer.TheVariants.{Handle as OfHandle, Amount as OfAmount}
 use Rattle.model.specs.declared.Call.TheVariants.{Allocate, Release}
-use Rattle.model.specs.declared.HandleAnswer.TheVariants.{Given}
-use Rattle.model.specs.declared.AmountAnswer.TheVariants.{Amount, Refused as NoAmount}
 use Rattle.model.specs.declared.Refusal.TheVariants.{NoSuchObject}
 use Rattle.model.proofs.Computing.{computing}
 use Rattle.ledger.specs.Ledger.{Event, Called}
@@ -47,9 +46,9 @@ unfolding computing performed answer_of verdict_values answer_values handle_valu
 plain_row =
     let opened : ListOf plain [] (fresh plain 64).heap (fresh plain 64).accounts =
     Opens (replicate 64 255) _ _ refl in
-    Calls (Calls (Calls opened (Allocate 0 8) (OfHandle (Given (handle 8 8 1))) made.heap made.accounts refl)
-    (Release 0 (handle 8 8 1)) (OfAmount (Amount 16)) (fresh plain 64).heap (after made).accounts refl)
-    (Release 0 (handle 8 8 1)) (OfAmount (NoAmount NoSuchObject)) (fresh plain 64).heap (after made).accounts refl
+    Calls (Calls (Calls opened (Allocate 0 8) (OfHandle (Ok (handle 8 8 1))) made.heap made.accounts refl)
+    (Release 0 (handle 8 8 1)) (OfAmount (Ok 16)) (fresh plain 64).heap (after made).accounts refl)
+    (Release 0 (handle 8 8 1)) (OfAmount (Err NoSuchObject)) (fresh plain 64).heap (after made).accounts refl
 
 -- by the table of the heap's own edition
 long : Outcome
@@ -60,4 +59,4 @@ unfolding computing performed answer_of verdict_values answer_values handle_valu
 second_row =
     let opened : ListOf second [] (fresh second 4112).heap (fresh second 4112).accounts =
     Opens (replicate 4112 255) _ _ refl in
-    Calls opened (Allocate 0 4089) (OfHandle (Given (handle 16 4096 1))) long.heap long.accounts refl
+    Calls opened (Allocate 0 4089) (OfHandle (Ok (handle 16 4096 1))) long.heap long.accounts refl

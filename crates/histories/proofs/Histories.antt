@@ -1,5 +1,7 @@
 -- Every list of calls that the functions make is a history, so demand 3 holds of it, at every split of its events: by
 -- value, and in place, where words hold the accounts.
+use Rattle.std.specs.Prelude.{Result, Ok}
+use Rattle.model.specs.declared.Refusal.{Refusal}
 use Prim.Native.Nat.{ℕ}
 use mathlib.Core.Path.{◌≡◌, refl, sym, subst}
 use mathlib.Core.List.{List, [], ◌∷◌, ◌++◌}
@@ -12,8 +14,6 @@ use Rattle.model.specs.Step.{own_step, performed}
 use Rattle.model.specs.Calls.{open_heap}
 use Rattle.model.specs.declared.Answer.{Answer}
 use Rattle.model.specs.declared.Call.{Call}
-use Rattle.model.specs.declared.Verdict.{Verdict}
-use Rattle.model.specs.declared.Verdict.TheVariants.{Accepted}
 use Rattle.model.proofs.Answers.{performed_step}
 use Rattle.ledger.specs.Ledger.{Event, Called, empty}
 use Rattle.ledger.specs.History.{Opening, History}
@@ -26,12 +26,12 @@ use Rattle.histories.proofs.CallRows
 -- what the contracts of `in_place::open` and `in_place::perform` promise, word for word, are the first event and the
 -- next one
 module _ (settings : Settings) (grants : List ℕ) where
-  pub opens_in_place : (before s words : List ℕ) (r : Verdict) → r ≡ Accepted
+  pub opens_in_place : (before s words : List ℕ) (r : Result (Unit {0}) Refusal) → r ≡ Ok tt
       → opened_outcome s (opened_result words r) ≡ open_heap settings before grants
       → Performs accounts_of settings grants [] s words
   opens_in_place before s words r a e =
       Opens before s words
-      (subst (λ (v : Verdict). opened_outcome s (opened_result words v) ≡ open_heap settings before grants) a e)
+      (subst (λ (v : Result (Unit {0}) Refusal). opened_outcome s (opened_result words v) ≡ open_heap settings before grants) a e)
 
   pub calls_in_place : {es : List Event} {s words : List ℕ} → Performs accounts_of settings grants es s words
       → (call : Call) (r : Answer) (s' words' : List ℕ)

@@ -1,7 +1,7 @@
 -- Lists of calls that the functions make (rule 10.1): an accepted opening, then calls, each on the heap and the
 -- accounts that the one before left, and bytes written inside live objects in between. Of each call nothing is known
 -- but its contract.
-use Rattle.std.specs.Prelude.{ℕ, ◌<◌, ◌^◌, ◌≡◌, List, [], ◌∷◌, length, get_or}
+use Rattle.std.specs.Prelude.{ℕ, ◌<◌, ◌^◌, ◌≡◌, List, [], ◌∷◌, length, get_or, Ok}
 use Rattle.accounts.specs.declared.Accounts.{Accounts}
 use Rattle.accounts.specs.declared.settings.Settings.{Settings}
 use Rattle.accounts.specs.Accounts.{QUOTAS}
@@ -11,7 +11,6 @@ use Rattle.model.specs.Calls.{open_heap}
 use Rattle.model.specs.Step.{performed}
 use Rattle.model.specs.declared.Answer.{Answer}
 use Rattle.model.specs.declared.Call.{Call}
-use Rattle.model.specs.declared.Verdict.TheVariants.{Accepted}
 use Rattle.ledger.specs.Ledger.{Event, Called, Wrote}
 use Rattle.ledger.specs.History.{Written}
 use Rattle.results.specs.Results.{opened_outcome}
@@ -27,7 +26,7 @@ pub record Granted (grants : List ℕ) : Type 0 where
 module _ {S : Type 0} (accounts : S → Accounts) (settings : Settings) (grants : List ℕ) where
   pub data Performs : List Event → List ℕ → S → Type 0 where
     Opens : (before s : List ℕ) (w : S)
-        → opened_outcome s (record { accounts = accounts w; verdict = Accepted }) ≡ open_heap settings before grants
+        → opened_outcome s (record { accounts = accounts w; verdict = Ok tt }) ≡ open_heap settings before grants
         → Performs [] s w
     Calls : {es : List Event} {s : List ℕ} {w : S} → Performs es s w → (c : Call) (a : Answer) (s' : List ℕ) (w' : S)
         → record { heap = s'; accounts = accounts w'; answer = a }

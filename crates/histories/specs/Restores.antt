@@ -1,8 +1,7 @@
 -- Restores (rule 13.16): after an image is read, demand 3 speaks of the image's history and of the events since.
 -- `Continues` says it of an image that was written in the history that reads it, `ReadAnywhere` of any image and any
 -- board.
-use Rattle.std.specs.Prelude.{◌≡◌, List, ◌∷◌, ◌++◌, ℕ, length, take}
-use Rattle.std.proofs.Math.Option.{some}
+use Rattle.std.specs.Prelude.{◌≡◌, List, ◌∷◌, ◌++◌, ℕ, length, take, Some}
 use Rattle.accounts.specs.declared.Accounts.{Accounts}
 use Rattle.ledger.specs.Ledger.{Ledger, Event, Saved, Restored, read_ledger, ledger_of}
 use Rattle.ledger.specs.History.{by_own, History, Leads}
@@ -56,6 +55,6 @@ module _ (tables : ℕ → ℕ → ℕ) (begun : Ledger) (early : List Event) (s
 pub record ReadAnywhere (tables : ℕ → ℕ → ℕ) (read : Reader) : Type 0 where
   pub always : (begun : Ledger) (early : List Event) (s₁ : List ℕ) (k₁ : Accounts)
       → History tables (by_own tables) begun early s₁ k₁
-      → (f : Form) (o h : List ℕ) → form_numbered f.number ≡ some f
+      → (f : Form) (o h : List ℕ) → form_numbered f.number ≡ Some f
       → (write_image f o s₁ k₁).refusal ≡ 0 → length h ≡ length s₁
       → Elsewhere tables begun early s₁ k₁ h (read (written_image f o s₁ k₁) h)

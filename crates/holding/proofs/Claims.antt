@@ -1,21 +1,19 @@
 -- A claim by the places of the records is that of rules 8.13 to 8.15: where the quota has a record for the object, its count decides and is raised at
 -- its place; where it has none, its remainder and then the unused records decide, and the lowest unused place takes the new record.
+use Rattle.model.specs.declared.Refusal.{Refusal}
+use Rattle.std.specs.Prelude.{Option, Some, None, Result, Ok}
 use Prim.Native.Nat.{ℕ, ◌+◌, ◌/◌, ◌%◌, ◌≤◌, ◌<◌}
 use mathlib.Core.Path.{◌≡◌, refl, ap, sym, ◌∙◌}
 use mathlib.Core.List.{List, [], ◌∷◌}
 use mathlib.Core.Bool.{Bool, true, false, not, ◌&&◌, ◌||◌}
-use mathlib.Core.Option.{Option}
 use lib.Dec.{ltb, eqb}
 use borrow.Author.Tests.{lt-ltb, le-ltb, eq-eqb, ne_eqb}
 use Rattle.accounts.specs.declared.Accounts.{Accounts}
 use Rattle.accounts.specs.declared.Hold.{Hold}
-use Rattle.accounts.specs.declared.Place.{Place}
-use Rattle.accounts.specs.declared.Place.TheVariants.{At, Nothing}
 use Rattle.accounts.specs.Accounts.{QUOTAS, CLAIM, quota_at, permits, zero_hold, with_holds, remaining, charge, used, unused, is_for, find_hold}
 use Rattle.accounts.specs.Accounts.{lowest_unused, hold_at, put_hold}
 use Rattle.accounts.proofs.Laws.{charge_kept}
 use Rattle.lookup.specs.declared.Met.{Met}
-use Rattle.lookup.specs.declared.Lookup.TheVariants.{Found, Missing}
 use Rattle.lookup.specs.Walk.{object_met, find_object}
 use Rattle.model.specs.Answers.{verdict_values, amount_values, amount_of}
 use Rattle.lists.specs.Lists.{all, any, or_else}
@@ -27,8 +25,6 @@ use Rattle.model.specs.Refusals.{greatest_count, row_lines}
 use Rattle.model.specs.Calls.{Outcome, unless, unchanged, claimed, check, claim}
 use Rattle.model.specs.declared.Handle.{Handle}
 use Rattle.model.specs.declared.Refusal.TheVariants.{CountLimit, QuotaExceeded, HoldsExhausted}
-use Rattle.model.specs.declared.Verdict.{Verdict}
-use Rattle.model.specs.declared.Verdict.TheVariants.{Accepted}
 use Rattle.lists.proofs.Lists.{first_none}
 use Rattle.results.specs.Results.{amount_outcome}
 use Rattle.holding.specs.Claims.{not_claimed, claimed_length, claim_again, claim_in, claim_first}
@@ -71,12 +67,12 @@ module _ (q : ℕ) (h : Hold) (n : ℕ) (k : Accounts) where
   unfolding claim_first
   first_short l = rw (lt-ltb (remaining q k) (charge_of n) l)
 
-  module _ (enough : charge_of n ≤ remaining q k) (p : Place) (at : p ≡ lowest_unused k) where
-    pub first_full : p ≡ Nothing → not_claimed HoldsExhausted k ≡ claim_first q h n k
+  module _ (enough : charge_of n ≤ remaining q k) (p : Option ℕ) (at : p ≡ lowest_unused k) where
+    pub first_full : p ≡ None → not_claimed HoldsExhausted k ≡ claim_first q h n k
     unfolding claim_first claim_in
     first_full e = rw (le-ltb (remaining q k) (charge_of n) enough, sym at, e)
 
-    pub first_takes : (i : ℕ) → p ≡ At i → claimed_length n (put_hold i h (charge q (charge_of n) k)) ≡ claim_first q h n k
+    pub first_takes : (i : ℕ) → p ≡ Some i → claimed_length n (put_hold i h (charge q (charge_of n) k)) ≡ claim_first q h n k
     unfolding claim_first claim_in
     first_takes i e = rw (le-ltb (remaining q k) (charge_of n) enough, sym at, e)
 
@@ -89,7 +85,7 @@ claim_done s k q o = unchanged s (claimed q o k) (amount_of o.length)
 
 module _ (s : List ℕ) (k : Accounts) (q : ℕ) (l : q < QUOTAS) (o : Handle) where
   -- the quota's record stands at a place
-  module _ (i : ℕ) (e : find_hold o.serial (q % 256) k ≡ At i) where
+  module _ (i : ℕ) (e : find_hold o.serial (q % 256) k ≡ Some i) where
     count_found : count_of o.serial q k.holds ≡ (hold_at i k).count
     unfolding find_hold count_of or_else hold_at
     count_found =
@@ -124,7 +120,7 @@ module _ (s : List ℕ) (k : Accounts) (q : ℕ) (l : q < QUOTAS) (o : Handle) w
             ∙ only_passes (claims_first k q o) (line_8 k q o.length) (line_9 k) free_of_charge))
 
   -- the quota has no record
-  module _ (e : find_hold o.serial (q % 256) k ≡ Nothing) where
+  module _ (e : find_hold o.serial (q % 256) k ≡ None) where
     abbrev new_hold : Hold
     new_hold = record { serial = o.serial; quota = q % 256; count = 1 }
 
@@ -144,7 +140,7 @@ module _ (s : List ℕ) (k : Accounts) (q : ℕ) (l : q < QUOTAS) (o : Handle) w
         line_passes 7 (eqb (count_of o.serial q k.holds) greatest_count) _ (rw count_missing)
         ∙ only_counts (claims_first k q o) (line_8 k q o.length) (line_9 k) pays
 
-    taken : (i : ℕ) → lowest_unused k ≡ At i → claimed q o k ≡ put_hold i new_hold (charge q (charge_of o.length) k)
+    taken : (i : ℕ) → lowest_unused k ≡ Some i → claimed q o k ≡ put_hold i new_hold (charge q (charge_of o.length) k)
     unfolding claimed take_record put_hold lowest_unused
     taken i f =
         let paid = charge q (charge_of o.length) k in
@@ -162,14 +158,14 @@ module _ (s : List ℕ) (k : Accounts) (q : ℕ) (l : q < QUOTAS) (o : Handle) w
         refused_is (first_refusal (claim_rest k q o)) s k (claim_done s k q o) QuotaExceeded
         (eighth ∙ line_refuses 8 (ltb (remaining q k) (charge_of o.length)) (line_9 k ∷ []) x)
 
-    paid_is : ltb (remaining q k) (charge_of o.length) ≡ false → (p : Place) → lowest_unused k ≡ p
+    paid_is : ltb (remaining q k) (charge_of o.length) ≡ false → (p : Option ℕ) → lowest_unused k ≡ p
         → FirstIs (amount_outcome s (claim_in p q new_hold o.length k))
     unfolding claim_in amount_values line_8 line_9 lowest_unused first_refusal
-    paid_is n Nothing f =
+    paid_is n None f =
         refused_is (first_refusal (claim_rest k q o)) s k (claim_done s k q o) HoldsExhausted
         (eighth ∙ line_passes 8 (ltb (remaining q k) (charge_of o.length)) (line_9 k ∷ []) n
         ∙ line_refuses 9 (all used k.holds) [] (rw (all_used k.holds, nothing_some unused k.holds 0 f)))
-    paid_is n (At i) f =
+    paid_is n (Some i) f =
         ap (λ (a : Accounts). unchanged s a (amount_of o.length)) (sym (taken i f))
         ∙ accepted_is (first_refusal (claim_rest k q o)) s k (claim_done s k q o)
         (eighth ∙ line_passes 8 (ltb (remaining q k) (charge_of o.length)) (line_9 k ∷ []) n
@@ -184,9 +180,9 @@ module _ (s : List ℕ) (k : Accounts) (q : ℕ) (l : q < QUOTAS) (o : Handle) w
         go false x = rw x (paid_is x (lowest_unused k) refl)
 
 -- lines 1, 2, 3, 12 and 5 do not hold, or one of the last two does
-module _ (unit : ℕ → ℕ) (s : List ℕ) (k : Accounts) (v : Verdict) (told : verdict_values v ≡ (check unit s k).values) (accepts : v ≡ Accepted)
+module _ (unit : ℕ → ℕ) (s : List ℕ) (k : Accounts) (v : Result (Unit {0}) Refusal) (told : verdict_values v ≡ (check unit s k).values) (accepts : v ≡ Ok tt)
     (h : Handle) where
-  pub claim_found : (m : Met) → find_object h s ≡ Found m → (q : ℕ) → q < QUOTAS → permits CLAIM q k ≡ true
+  pub claim_found : (m : Met) → find_object h s ≡ Some m → (q : ℕ) → q < QUOTAS → permits CLAIM q k ≡ true
       → first_refusal (claim_lines unit s k q h) ≡ first_refusal (claim_rest k q (found (lookup h s)))
   unfolding row_lines
   claim_found m e q l p =
@@ -195,7 +191,7 @@ module _ (unit : ℕ → ℕ) (s : List ℕ) (k : Accounts) (v : Verdict) (told 
       ∙ line_12_passes CLAIM q k (line_5 (lookup h s) ∷ rest) p
       ∙ line_5_passes (lookup h s) (object_met m) rest (located unit s k v told accepts h m e).named
 
-  pub claim_missing : find_object h s ≡ Missing → (q : ℕ) → q < QUOTAS → permits CLAIM q k ≡ true → first_refusal (claim_lines unit s k q h) ≡ 5
+  pub claim_missing : find_object h s ≡ None → (q : ℕ) → q < QUOTAS → permits CLAIM q k ≡ true → first_refusal (claim_lines unit s k q h) ≡ 5
   unfolding row_lines
   claim_missing e q l p =
       let rest = claim_rest k q (found (lookup h s)) in
@@ -210,9 +206,10 @@ module _ (unit : ℕ → ℕ) (s : List ℕ) (k : Accounts) (v : Verdict) (told 
       quota_passes unit s k v told accepts q (line_12 CLAIM k q ∷ rest) l ∙ line_12_refuses CLAIM q k rest z
 
 -- so the call's outcome is the definition's
-module _ (unit : ℕ → ℕ) (s : List ℕ) (k : Accounts) (v : Verdict) (told : verdict_values v ≡ (check unit s k).values) (accepts : v ≡ Accepted) (h : Handle)
+module _ (unit : ℕ → ℕ) (s : List ℕ) (k : Accounts) (v : Result (Unit {0}) Refusal) (told : verdict_values v ≡ (check unit s k).values)
+    (accepts : v ≡ Ok tt) (h : Handle)
     (m : Met)
-    (e : find_object h s ≡ Found m) (q : ℕ) (l : q < QUOTAS) (permitted : permits CLAIM q k ≡ true) where
+    (e : find_object h s ≡ Some m) (q : ℕ) (l : q < QUOTAS) (permitted : permits CLAIM q k ≡ true) where
   due : unless (first_refusal (claim_rest k q (object_met m))) s k (claim_done s k q (object_met m)) ≡ claim unit s k q h
   unfolding claim
   due =
@@ -221,9 +218,9 @@ module _ (unit : ℕ → ℕ) (s : List ℕ) (k : Accounts) (v : Verdict) (told 
       ∙ ap (λ (n : ℕ). unless n s k (claim_done s k q (found (lookup h s))))
       (sym (claim_found unit s k v told accepts h m e q l permitted))
 
-  pub claims_again : (i : ℕ) → find_hold m.serial (q % 256) k ≡ At i → amount_outcome s (claim_again i (object_met m).length k) ≡ claim unit s k q h
+  pub claims_again : (i : ℕ) → find_hold m.serial (q % 256) k ≡ Some i → amount_outcome s (claim_again i (object_met m).length k) ≡ claim unit s k q h
   claims_again i f = again_is s k q l (object_met m) i f ∙ due
 
-  pub claims_anew : find_hold m.serial (q % 256) k ≡ Nothing
+  pub claims_anew : find_hold m.serial (q % 256) k ≡ None
       → amount_outcome s (claim_first q (record { serial = m.serial; quota = q % 256; count = 1 }) (object_met m).length k) ≡ claim unit s k q h
   claims_anew f = first_is s k q l (object_met m) f ∙ due

@@ -1,4 +1,5 @@
 -- What open writes is one free block of zeros, and its outcome is the definition's, refused or accepted.
+use Rattle.std.specs.Prelude.{Ok, Err}
 use mathlib.Core.Path.{◌≡◌, refl, ap, sym, ◌∙◌}
 use Prim.Native.Nat.{ℕ, ◌+◌, ◌-◌, ◌/◌, ◌%◌, ◌≤◌}
 use native.Mathlib.Omega.{arith}
@@ -19,7 +20,6 @@ use Rattle.model.specs.Consistent.{allowed}
 use Rattle.model.specs.Refusals.{first_refusal, line_1, open_lines}
 use Rattle.model.specs.Calls.{leaves, fresh, open_heap}
 use Rattle.model.specs.declared.Refusal.TheVariants.{HeapLength}
-use Rattle.model.specs.declared.Verdict.TheVariants.{Accepted, Refused}
 use Rattle.lists.proofs.Bools.{and_left, and_right}
 use Rattle.results.specs.Results.{outcome}
 use Rattle.results.proofs.Lines.{refused_is, accepted_is, line_refuses, line_passes}
@@ -51,14 +51,14 @@ cleared s h =
     (header_length (record { size = length s / 8; back = 0; serial = 0 }) ∙ sym (length-replicate {A = ℕ} 8 0)))
 
 module _ (g : Settings) (s gs : List ℕ) (k : Accounts) where
-  pub open_refused : k ≡ zero_accounts → allowed (length s) ≡ false → outcome s k (verdict_values (Refused HeapLength)) ≡ open_heap g s gs
+  pub open_refused : k ≡ zero_accounts → allowed (length s) ≡ false → outcome s k (verdict_values (Err HeapLength)) ≡ open_heap g s gs
   unfolding open_heap open_lines line_1 verdict_values
   open_refused e f =
       rw e (refused_is (first_refusal (open_lines s)) s zero_accounts (leaves (fresh g (length s) gs) accepted) HeapLength
       (line_refuses 1 (not (allowed (length s))) [] (rw f)))
 
   pub open_accepted : (t : List ℕ) → k ≡ opened g gs → t ≡ write_header 0 (record { size = length s / 8; back = 0; serial = 0 }) (zero_part 0 (length s) s)
-      → allowed (length s) ≡ true → outcome t k (verdict_values Accepted) ≡ open_heap g s gs
+      → allowed (length s) ≡ true → outcome t k (verdict_values (Ok tt)) ≡ open_heap g s gs
   unfolding open_heap open_lines line_1 verdict_values fresh first_refusal
   open_accepted t e f a =
       rw (e, f, cleared s (allowed_long (length s) a).0)

@@ -1,6 +1,7 @@
 -- The walk that frees the blocks that are not kept, over plain lists. What starts at its place is the first block that is left. A block that remains is
 -- settled already, so it joins those in front. Another one is freed in place, which leaves what settling gives (`freed_settles`), and the free block
 -- that it becomes, with a free one behind it, joins those in front. At the end no block is left, so all blocks are settled.
+use Rattle.std.specs.Prelude.{Some, None}
 use Prim.Native.Nat.{ℕ, ◌+◌, ◌*◌, ◌≤◌, ◌<◌}
 use native.Mathlib.Omega.{arith}
 use mathlib.Core.Path.{◌≡◌, refl, ap, sym, ◌∙◌}
@@ -12,7 +13,6 @@ use Rattle.accounts.specs.declared.Hold.{Hold}
 use Rattle.accounts.specs.Accounts.{HOLDS}
 use Rattle.layout.specs.Blocks.{Block, size, units, live, total_size, back_after, header_of, start_at, render, Writable, AllWritable}
 use Rattle.layout.specs.declared.Header.{Header}
-use Rattle.layout.specs.declared.Start.TheVariants.{Block as Starts, Nothing}
 use Rattle.layout.proofs.Parse.{render_is}
 use Rattle.layout.proofs.Render.{start_stands, start_ends, length_render, all_left, all_right, back_small, size_append}
 use Rattle.lists.specs.Lists.{all, total}
@@ -96,7 +96,7 @@ module _ (kind : ℕ) (hs : List Hold) (bs : List Block) (kept : List Bool) (i a
   emptying_full h = done (flags_full hs kept i e.todo h e.flags)
 
   -- behind the last block nothing starts
-  starts_none : e.todo ≡ [] → start_at at s ≡ Nothing
+  starts_none : e.todo ≡ [] → start_at at s ≡ None
   starts_none q = rw (e.place, e.bytes, q, append-nil e.front, render_is) (start_ends 0 e.front)
 
   -- the first block that is left
@@ -108,7 +108,7 @@ module _ (kind : ℕ) (hs : List Hold) (bs : List Block) (kept : List Bool) (i a
     bytes = rw q at e.bytes
 
     -- it starts at the walk's place
-    starts : start_at at s ≡ Starts (header_of (back_after 0 e.front) b)
+    starts : start_at at s ≡ Some (header_of (back_after 0 e.front) b)
     starts =
         let narrow = back_small 0 e.front (lit< tt) (all_left Writable e.front (b ∷ ys) writable) in
         rw (e.place, bytes, render_is) (start_stands 0 e.front b ys (all_right Writable e.front (b ∷ ys) writable).0 narrow)
@@ -196,7 +196,7 @@ module _ (kind : ℕ) (hs : List Hold) (bs : List Block) (kept : List Bool) (i a
         go true false f u = rw (f, ((rw q at e.flags).0 f).1 ∙ u) (frees_on f u)
 
   -- where nothing starts at the walk's place, all is done
-  pub emptying_ended : start_at at s ≡ Nothing → s ≡ render (settle kind hs bs)
+  pub emptying_ended : start_at at s ≡ None → s ≡ render (settle kind hs bs)
   unfolding all
   emptying_ended n = go e.todo refl
     where
@@ -205,7 +205,7 @@ module _ (kind : ℕ) (hs : List Hold) (bs : List Block) (kept : List Bool) (i a
       go (b ∷ ys) q = let z : ◌≡◌ {A = ℕ} 0 1 = cc (starts b ys q) in absurd (omega arith)
 
   -- the walk passes the block that starts at its place, and gets on
-  pub emptying_on : (h : Header) → start_at at s ≡ Starts h → Passing kind hs bs kept i at s (counted h.serial) (headed at h)
+  pub emptying_on : (h : Header) → start_at at s ≡ Some h → Passing kind hs bs kept i at s (counted h.serial) (headed at h)
   emptying_on h n = go e.todo refl
     where
       go : (l : List Block) → e.todo ≡ l → Passing kind hs bs kept i at s (counted h.serial) (headed at h)

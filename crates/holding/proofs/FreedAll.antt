@@ -1,5 +1,6 @@
 -- Free-all among records, blocks and accounts. The refund changes no record, so the records that are left are those of the definition, and the flags are
 -- asked for them. The heap is that of its blocks, so the walk may start on it, and leaves the settled blocks. What is given back is what the quota had spent.
+use Rattle.std.specs.Prelude.{Result, Ok, Err}
 use Prim.Native.Nat.{ℕ, ◌/◌, ◌%◌, ◌≤◌, ◌<◌}
 use native.Mathlib.Omega.{arith}
 use mathlib.Core.Path.{◌≡◌, ap, sym, subst, ◌∙◌}
@@ -20,9 +21,6 @@ use Rattle.model.specs.Space.{settle}
 use Rattle.model.specs.Refusals.{Line, first_refusal, line_3, line_12, free_all_lines, row_lines}
 use Rattle.model.specs.Calls.{check, freed, free_all}
 use Rattle.model.specs.declared.Refusal.{Refusal}
-use Rattle.model.specs.declared.Verdict.{Verdict}
-use Rattle.model.specs.declared.Verdict.TheVariants.{Accepted, Refused as NotAccepted}
-use Rattle.model.specs.declared.AmountAnswer.TheVariants.{Amount, Refused}
 use Rattle.model.proofs.Consistent.{accounted_cut, accounted_apart}
 use Rattle.model.proofs.FreeAll.{charges_spent}
 use Rattle.survey.proofs.Flags.{accounted_well, drop_well}
@@ -37,29 +35,29 @@ use Rattle.holding.proofs.Flagged.{flagged}
 use Rattle.holding.proofs.Emptied.{emptying_start}
 
 -- the lines, where the check has answered v
-module _ (unit : ℕ → ℕ) (s : List ℕ) (k : Accounts) (q : ℕ) (v : Verdict) (told : verdict_values v ≡ (check unit s k).values) where
+module _ (unit : ℕ → ℕ) (s : List ℕ) (k : Accounts) (q : ℕ) (v : Result (Unit {0}) Refusal) (told : verdict_values v ≡ (check unit s k).values) where
   abbrev last_lines : List Line
   last_lines = line_12 FREE_ALL k q ∷ []
 
-  pub all_by_check : (x : Refusal) → v ≡ NotAccepted x → first_refusal (free_all_lines unit s k q) ≡ refusal_number x
+  pub all_by_check : (x : Refusal) → v ≡ Err x → first_refusal (free_all_lines unit s k q) ≡ refusal_number x
   unfolding row_lines
   all_by_check x e = check_refuses unit s k v told (line_3 q ∷ last_lines) x e
 
-  pub all_by_quota : v ≡ Accepted → QUOTAS ≤ q → first_refusal (free_all_lines unit s k q) ≡ 3
+  pub all_by_quota : v ≡ Ok tt → QUOTAS ≤ q → first_refusal (free_all_lines unit s k q) ≡ 3
   unfolding row_lines
   all_by_quota e l = check_accepts unit s k v told (line_3 q ∷ last_lines) e ∙ line_3_refuses q last_lines l
 
-  pub all_by_permission : v ≡ Accepted → q < QUOTAS → (quota_at q k).permissions / FREE_ALL % 2 ≡ 0 → first_refusal (free_all_lines unit s k q) ≡ 12
+  pub all_by_permission : v ≡ Ok tt → q < QUOTAS → (quota_at q k).permissions / FREE_ALL % 2 ≡ 0 → first_refusal (free_all_lines unit s k q) ≡ 12
   unfolding row_lines
   all_by_permission e l z =
       check_accepts unit s k v told (line_3 q ∷ last_lines) e ∙ line_3_passes q last_lines l ∙ line_12_refuses FREE_ALL q k [] z
 
-  pub all_passes : v ≡ Accepted → q < QUOTAS → permits FREE_ALL q k ≡ true → first_refusal (free_all_lines unit s k q) ≡ 0
+  pub all_passes : v ≡ Ok tt → q < QUOTAS → permits FREE_ALL q k ≡ true → first_refusal (free_all_lines unit s k q) ≡ 0
   unfolding row_lines first_refusal
   all_passes e l p = check_accepts unit s k v told (line_3 q ∷ last_lines) e ∙ line_3_passes q last_lines l ∙ line_12_passes FREE_ALL q k [] p
 
 -- a refusal as a result
-pub all_refuses : (unit : ℕ → ℕ) (s : List ℕ) (k : Accounts) (q : ℕ) (r : AmountResult) (x : Refusal) → r ≡ record { accounts = k; answer = Refused x }
+pub all_refuses : (unit : ℕ → ℕ) (s : List ℕ) (k : Accounts) (q : ℕ) (r : AmountResult) (x : Refusal) → r ≡ record { accounts = k; answer = Err x }
     → first_refusal (free_all_lines unit s k q) ≡ refusal_number x → amount_outcome s r ≡ free_all unit s k q
 unfolding free_all amount_values
 all_refuses unit s k q r x e n = ap (amount_outcome s) e ∙ refused_is (first_refusal (free_all_lines unit s k q)) s k _ x n
@@ -103,12 +101,12 @@ module _ (unit : ℕ → ℕ) (s : List ℕ) (k : Accounts) (o : Octets s) (shor
     -- so the walk may start, and what it leaves is the definition's
     pub all_freed : first_refusal (free_all_lines unit s k q) ≡ 0
         → Emptiable kind (flags_of hs s) s
-        × ((s' : List ℕ) → Emptied kind (flags_of hs s) s s' → (r : AmountResult) → r ≡ record { accounts = k₂; answer = Amount back } → amount_outcome s' r
+        × ((s' : List ℕ) → Emptied kind (flags_of hs s) s s' → (r : AmountResult) → r ≡ record { accounts = k₂; answer = Ok back } → amount_outcome s' r
         ≡ free_all unit s k q)
     unfolding free_all freed
     all_freed z = ((rest, blocks_of s, emptying), leaves_all)
       where
-        leaves_all : (s' : List ℕ) → Emptied kind (flags_of hs s) s s' → (r : AmountResult) → r ≡ record { accounts = k₂; answer = Amount back }
+        leaves_all : (s' : List ℕ) → Emptied kind (flags_of hs s) s s' → (r : AmountResult) → r ≡ record { accounts = k₂; answer = Ok back }
             → amount_outcome s' r ≡ free_all unit s k q
         leaves_all s' f r re =
             let heap : s' ≡ render (settle k.kind rest (blocks_of s)) =

@@ -1,4 +1,5 @@
 -- The sweep among blocks: the heap of a consistent state is that of its blocks, so the walk may start on it, and what it leaves and gives is the definition's.
+use Rattle.std.specs.Prelude.{Result, Ok, Err}
 use Prim.Native.Nat.{ℕ}
 use native.Mathlib.Omega.{arith}
 use mathlib.Core.Path.{◌≡◌, ap, sym, ◌∙◌}
@@ -14,9 +15,6 @@ use Rattle.model.specs.Consistent.{allowed, accounted, consistent}
 use Rattle.model.specs.Refusals.{first_refusal, check_lines, row_lines}
 use Rattle.model.specs.Calls.{check, sweep}
 use Rattle.model.specs.declared.Refusal.{Refusal}
-use Rattle.model.specs.declared.Verdict.{Verdict}
-use Rattle.model.specs.declared.Verdict.TheVariants.{Accepted, Refused as NotAccepted}
-use Rattle.model.specs.declared.AmountAnswer.TheVariants.{Amount, Refused}
 use Rattle.model.proofs.Consistent.{accounted_cut, accounted_apart}
 use Rattle.lookup.proofs.Parsed.{total_parsed}
 use Rattle.results.specs.Results.{outcome}
@@ -28,9 +26,9 @@ use Rattle.holding.specs.Sweeping.{Sweeping, Sweepable, Swept}
 use Rattle.results.proofs.Amounts.{gives}
 use Rattle.holding.proofs.Unquarantined.{sweeping_start}
 
-module _ (unit : ℕ → ℕ) (s : List ℕ) (k : Accounts) (v : Verdict) (told : verdict_values v ≡ (check unit s k).values) where
+module _ (unit : ℕ → ℕ) (s : List ℕ) (k : Accounts) (v : Result (Unit {0}) Refusal) (told : verdict_values v ≡ (check unit s k).values) where
   -- the check's refusal
-  pub sweep_refuses : (r : AmountResult) (x : Refusal) → r ≡ record { accounts = k; answer = Refused x } → v ≡ NotAccepted x → amount_outcome s r
+  pub sweep_refuses : (r : AmountResult) (x : Refusal) → r ≡ record { accounts = k; answer = Err x } → v ≡ Err x → amount_outcome s r
       ≡ sweep unit s k
   unfolding sweep amount_values row_lines
   sweep_refuses r x e n = ap (amount_outcome s) e ∙ refused_is (first_refusal (check_lines unit s k)) s k _ x (check_refuses unit s k v told [] x n)
@@ -49,9 +47,10 @@ pub sweepable : (unit : ℕ → ℕ) (s : List ℕ) (k : Accounts) → Octets s 
 sweepable unit s k o ok = (blocks_of s, sweeping_of unit s k o ok)
 
 -- and what it leaves is the definition's
-pub sweep_gives : (unit : ℕ → ℕ) (s : List ℕ) (k : Accounts) → Octets s → (v : Verdict) → verdict_values v ≡ (check unit s k).values → v ≡ Accepted
+pub sweep_gives : (unit : ℕ → ℕ) (s : List ℕ) (k : Accounts) → Octets s → (v : Result (Unit {0}) Refusal)
+    → verdict_values v ≡ (check unit s k).values → v ≡ Ok tt
     → (s' : List ℕ) (n : ℕ) → Swept s s' n
-    → (r : AmountResult) → r ≡ record { accounts = k; answer = Amount n } → amount_outcome s' r ≡ sweep unit s k
+    → (r : AmountResult) → r ≡ record { accounts = k; answer = Ok n } → amount_outcome s' r ≡ sweep unit s k
 unfolding sweep row_lines first_refusal
 sweep_gives unit s k o v told ok s' n w r e =
     let f = w (blocks_of s) (sweeping_of unit s k o (check_accounted unit s k v told ok)) in

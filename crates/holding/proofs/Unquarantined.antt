@@ -2,6 +2,7 @@
 -- one is unquarantined in place, which leaves what the sweep gives (`unquarantined_sweeps`), and the free block that it becomes, with a free one behind it,
 -- joins
 -- those in front; the free one behind it counts for nothing in the sum. At the end no block is left, so all blocks are swept.
+use Rattle.std.specs.Prelude.{Some, None}
 use Prim.Native.Nat.{ℕ, ◌+◌, ◌*◌, ◌≤◌, ◌<◌}
 use native.Mathlib.Omega.{arith}
 use mathlib.Core.Path.{◌≡◌, refl, ap, sym, ◌∙◌}
@@ -12,7 +13,6 @@ use lib.Dec.{eqb, lit<}
 use Rattle.layout.specs.Blocks.{Block, size, units, occupied, QUARANTINED, quarantined, total_size, back_after, header_of, start_at, render, Writable}
 use Rattle.layout.specs.Blocks.{AllWritable}
 use Rattle.layout.specs.declared.Header.{Header}
-use Rattle.layout.specs.declared.Start.TheVariants.{Block as Starts, Nothing}
 use Rattle.layout.proofs.Parse.{render_is}
 use Rattle.layout.proofs.Render.{start_stands, start_ends, length_render, all_left, all_right, back_small, size_append}
 use Rattle.lists.specs.Lists.{all, total, keep}
@@ -110,7 +110,7 @@ module _ (bs : List Block) (sum at : ℕ) (s : List ℕ) (e : Sweeping bs sum at
       omega (arith, ap length e.bytes, e.short)
 
   -- behind the last block nothing starts
-  starts_none : e.todo ≡ [] → start_at at s ≡ Nothing
+  starts_none : e.todo ≡ [] → start_at at s ≡ None
   starts_none q = rw (e.place, e.bytes, q, append-nil e.front, render_is) (start_ends 0 e.front)
 
   -- the first block that is left
@@ -122,7 +122,7 @@ module _ (bs : List Block) (sum at : ℕ) (s : List ℕ) (e : Sweeping bs sum at
     bytes = rw q at e.bytes
 
     -- it starts at the walk's place
-    starts : start_at at s ≡ Starts (header_of (back_after 0 e.front) b)
+    starts : start_at at s ≡ Some (header_of (back_after 0 e.front) b)
     starts =
         let narrow = back_small 0 e.front (lit< tt) (all_left Writable e.front (b ∷ ys) writable) in
         rw (e.place, bytes, render_is) (start_stands 0 e.front b ys (all_right Writable e.front (b ∷ ys) writable).0 narrow)
@@ -214,7 +214,7 @@ module _ (bs : List Block) (sum at : ℕ) (s : List ℕ) (e : Sweeping bs sum at
         go false f = rw f (stays_on f)
 
   -- where nothing starts at the walk's place, all is done
-  pub sweeping_ended : start_at at s ≡ Nothing → (s ≡ render (swept bs)) × (sum ≡ waits bs) × (sum ≤ 32768)
+  pub sweeping_ended : start_at at s ≡ None → (s ≡ render (swept bs)) × (sum ≡ waits bs) × (sum ≤ 32768)
   unfolding all keep total
   sweeping_ended n = go e.todo refl
     where
@@ -226,7 +226,7 @@ module _ (bs : List Block) (sum at : ℕ) (s : List ℕ) (e : Sweeping bs sum at
       go (b ∷ ys) q = let z : ◌≡◌ {A = ℕ} 0 1 = cc (starts b ys q) in absurd (omega arith)
 
   -- the walk passes the block that starts at its place, and gets on
-  pub sweeping_on : (h : Header) → start_at at s ≡ Starts h
+  pub sweeping_on : (h : Header) → start_at at s ≡ Some h
       → (at < swept_end (headed at h) s) × Sweeping bs (sum + quarantined_size h.serial (8 * h.size)) (swept_end (headed at h) s)
       (swept_bytes (headed at h) s)
   sweeping_on h n = go e.todo refl

@@ -9,9 +9,9 @@ ghost use Rattle.holding.specs.Emptying.{counted, passed, passed_end, flags_of, 
 ghost use Rattle.words.specs.Words.{edition_of, holds_of, accounts_of, Padded};
 
 use accounts::{FREE_ALL, HOLDS, QUOTAS};
-use layout::{QUARANTINED, Start};
+use layout::QUARANTINED;
 use lookup::Met;
-use model::{AmountAnswer, Refusal, Verdict};
+use model::Refusal;
 use words::WORDS;
 
 // How many live blocks a block with this serial is.
@@ -47,6 +47,7 @@ fn pass_block(heap: &mut [u8], kind: u8, block: Met, kept: bool) -> usize
 }
 
 // The live blocks that are not kept are vacated, the flags taken in the order of the live blocks.
+// The index counts live blocks and not turns, so a loop over a range would not be plainer.
 fn free_unkept(heap: &mut [u8], kind: u8, kept: &[bool; HOLDS])
     requires { Emptiable kind kept.now heap.old }
     ensures { Emptied kind kept.now heap.old heap.new }
@@ -54,7 +55,7 @@ fn free_unkept(heap: &mut [u8], kind: u8, kept: &[bool; HOLDS])
     let mut i: usize = 0;
     let mut at: usize = 0;
     while i < HOLDS {
-        let Start::Block(header) = layout::start_at(heap, at) else {
+        let Some(header) = layout::start_at(heap, at) else {
             return;
         };
         let block = Met {
@@ -69,6 +70,8 @@ fn free_unkept(heap: &mut [u8], kind: u8, kept: &[bool; HOLDS])
 }
 
 // The live blocks that no used record holds are vacated. The flags lie beside the index of the records that are left, and not beside the survey's.
+// It stands by itself, so that its flags are on the stack only while it runs, and not beside the survey.
+#[inline(never)]
 pub(crate) fn free_unheld(heap: &mut [u8], words: &[u32; WORDS], kind: u8)
     requires { Emptiable kind (flags_of (holds_of words.now) heap.old) heap.old }
     ensures { Emptied kind (flags_of (holds_of words.now) heap.old) heap.old heap.new }
@@ -79,24 +82,21 @@ pub(crate) fn free_unheld(heap: &mut [u8], words: &[u32; WORDS], kind: u8)
 }
 
 // Every hold of a quota is given up, and all that it has spent is given back; objects that no quota holds are freed.
-pub fn free_all(heap: &mut [u8], words: &mut [u32; WORDS], quota: u32) -> AmountAnswer
+pub fn free_all(heap: &mut [u8], words: &mut [u32; WORDS], quota: u32) -> Result<u32, Refusal>
     ensures holds { amount_outcome heap.new (amount_result words.new result)
         ≡ free_all_of (table (edition_of words.old)) heap.old (accounts_of words.old) quota }
     ensures pads { Padded words.old words.new }
 {
-    let known = survey::survey(heap, words, survey::unasked());
-    if let Verdict::Refused(refusal) = survey::verdict(known.refusal) {
-        return AmountAnswer::Refused(refusal);
-    }
+    survey::survey(heap, words, survey::unasked())?;
     if QUOTAS <= quota as usize {
-        return AmountAnswer::Refused(Refusal::QuotaNumber);
+        return Err(Refusal::QuotaNumber);
     }
     if words::permissions(words, quota) / FREE_ALL % 2 == 0 {
-        return AmountAnswer::Refused(Refusal::NotPermitted);
+        return Err(Refusal::NotPermitted);
     }
     let back = words::spent(words, quota);
     words::refund(words, quota, back);
     words::drop_holds(words, quota as u8);
     free_unheld(heap, words, words::kind(words));
-    AmountAnswer::Amount(back)
+    Ok(back)
 }

@@ -8,7 +8,7 @@ ghost use Rattle.results.specs.Results.{opened_outcome, opened_result};
 
 use accounts::{QUOTAS, Settings};
 use layout::Header;
-use model::{Refusal, Verdict};
+use model::Refusal;
 use words::WORDS;
 
 // Rule 8.2: zeros everywhere, and at offset 0 the header of one free block.
@@ -31,16 +31,16 @@ pub fn open(
     words: &mut [u32; WORDS],
     grants: [u32; QUOTAS],
     settings: Settings,
-) -> Verdict
+) -> Result<(), Refusal>
     ensures holds { opened_outcome heap.new (opened_result words.new result) ≡ open_heap settings heap.old grants }
     ensures pads { Unpadded words.new }
 {
     let len = heap.len();
     if !model::is_allowed(len) {
         words::clear(words);
-        return Verdict::Refused(Refusal::HeapLength);
+        return Err(Refusal::HeapLength);
     }
     clear(heap, len);
     words::open(words, grants, settings);
-    Verdict::Accepted
+    Ok(())
 }

@@ -6,7 +6,7 @@ ghost use Rattle.results.specs.Results.{amount_outcome, amount_result};
 ghost use Rattle.words.specs.Words.{edition_of, accounts_of, Padded};
 
 use accounts::QUOTAS;
-use model::{AmountAnswer, Refusal, Verdict};
+use model::Refusal;
 use words::WORDS;
 
 // Rule 15.4: those permissions of a quota are cleared whose bit is set in a number: bit 0 is allocate, 1 claim, 2 free-all. The answer is what is left.
@@ -15,19 +15,16 @@ pub fn clear_permissions(
     words: &mut [u32; WORDS],
     quota: u32,
     bits: u32,
-) -> AmountAnswer
+) -> Result<u32, Refusal>
     ensures holds { amount_outcome heap.now (amount_result words.new result)
         ≡ clear_of (table (edition_of words.old)) heap.now (accounts_of words.old) quota bits }
     ensures pads { Padded words.old words.new }
 {
-    let known = survey::survey(heap, words, survey::unasked());
-    if let Verdict::Refused(refusal) = survey::verdict(known.refusal) {
-        return AmountAnswer::Refused(refusal);
-    }
+    survey::survey(heap, words, survey::unasked())?;
     if QUOTAS <= quota as usize {
-        return AmountAnswer::Refused(Refusal::QuotaNumber);
+        return Err(Refusal::QuotaNumber);
     }
     let left = words::left_permissions(words, quota, bits);
     words::clear_permissions(words, quota, bits);
-    AmountAnswer::Amount(left as u32)
+    Ok(left as u32)
 }

@@ -7,9 +7,9 @@ ghost use Rattle.results.specs.Results.{amount_outcome, amount_result};
 ghost use Rattle.holding.specs.Sweeping.{quarantined_size, swept_bytes, swept_end, Sweepable, Swept};
 ghost use Rattle.words.specs.Words.{edition_of, accounts_of};
 
-use layout::{QUARANTINED, Start};
+use layout::QUARANTINED;
 use lookup::Met;
-use model::{AmountAnswer, Verdict};
+use model::Refusal;
 use words::WORDS;
 
 // The bytes of a block that is quarantined, else 0.
@@ -42,10 +42,7 @@ pub(crate) fn sweep_blocks(heap: &mut [u8]) -> usize
 {
     let mut sum: usize = 0;
     let mut at: usize = 0;
-    loop {
-        let Start::Block(header) = layout::start_at(heap, at) else {
-            return sum;
-        };
+    while let Some(header) = layout::start_at(heap, at) {
         let block = Met {
             at: at,
             size: 8 * header.size,
@@ -55,17 +52,15 @@ pub(crate) fn sweep_blocks(heap: &mut [u8]) -> usize
         at = sweep_block(heap, block);
         sum += quarantined_size(header.serial, 8 * header.size);
     }
+    sum
 }
 
 // Every quarantined block becomes free, and the sum of their sizes is answered. No word changes.
-pub fn sweep(heap: &mut [u8], words: &[u32; WORDS]) -> AmountAnswer
+pub fn sweep(heap: &mut [u8], words: &[u32; WORDS]) -> Result<u32, Refusal>
     ensures { amount_outcome heap.new (amount_result words.now result)
         ≡ sweep_of (table (edition_of words.now)) heap.old (accounts_of words.now) }
 {
-    let known = survey::survey(heap, words, survey::unasked());
-    if let Verdict::Refused(refusal) = survey::verdict(known.refusal) {
-        return AmountAnswer::Refused(refusal);
-    }
+    survey::survey(heap, words, survey::unasked())?;
     let sum = sweep_blocks(heap);
-    AmountAnswer::Amount(sum as u32)
+    Ok(sum as u32)
 }

@@ -2,7 +2,6 @@
 use mathlib.Core.Path.{◌≡◌, ap, sym, ◌∙◌}
 use mathlib.Core.List.{List, [], ◌∷◌}
 use mathlib.Core.Bool.{Bool, true, false}
-use mathlib.Core.Option.{none, some}
 use Prim.Native.Nat.{ℕ, zero, suc, ◌≤◌}
 use native.Mathlib.Omega.{arith}
 use lib.ListN.{take, drop}
@@ -20,21 +19,18 @@ use Rattle.image_model.specs.Reading.{form_in, form_of, size_in, accounts_in, he
 use Rattle.image_model.specs.Answers.{image_refusal_number}
 use Rattle.image_model.specs.Images.{own_consistent, line_26, shape_lines, examine_lines}
 use Rattle.image_model.proofs.Answers.{image_refusal_is}
-use Rattle.image.specs.declared.Shape.TheVariants.{Refused}
+use Rattle.std.specs.Prelude.{Err, Option, Some, None, unwrap_or}
 use Rattle.image.specs.declared.Parsed.{Parsed}
-use Rattle.image.specs.Parsing.{Parts, parts_of, unless_parts, parts_in, examined_in}
+use Rattle.image.specs.Parsing.{Parts, known_form, parts_of, unless_parts, parts_in, examined_in}
 use Rattle.image.proofs.Parses.{Found, shape_numbered, refused_by, refused_found}
 use Rattle.image.proofs.Restores.{first_kept, first_passed}
 
 -- the form with the image's number, form 1 where there is none
 module _ (i : List ℕ) where
-  pub form_known : (f : Form) → form_numbered (number (take 2 (stream_of i))) ≡ some f → f ≡ form_of i
+  pub form_read : (o : Option Form) → known_form o ≡ form_numbered (number (take 2 (stream_of i))) → unwrap_or o form_1 ≡ form_of i
   unfolding form_of form_in or_else
-  form_known f e = rw e
-
-  pub form_unknown : form_numbered (number (take 2 (stream_of i))) ≡ none → form_1 ≡ form_of i
-  unfolding form_of form_in or_else
-  form_unknown e = rw e
+  form_read (Some f) e = rw (sym e)
+  form_read None e = rw (sym e)
 
 -- an image that its own bytes refuse
 kept : (i : List ℕ) (m : ℕ) → 1 ≤ m → first_refusal (shape_lines i) ≡ m → first_refusal (shape_lines i) ≡ first_refusal (examine_lines i)
@@ -48,7 +44,7 @@ examined_as i p told e =
     let x : Parts = record { refusal = 0; form = form_of i; size = size_in i; accounts = accounts_in i } in
     told ∙ ap (λ (m : ℕ). unless_parts m x) e
 
-pub examined_refused : (i : List ℕ) (p : Parsed) (r : ImageRefusal) → parts_of p ≡ parts_in i → p.shape ≡ Refused r → parts_of p ≡ examined_in i
+pub examined_refused : (i : List ℕ) (p : Parsed) (r : ImageRefusal) → parts_of p ≡ parts_in i → p.shape ≡ Err r → parts_of p ≡ examined_in i
 examined_refused i p r told e =
     examined_as i p told (kept i (image_refusal_number r) (image_refusal_is r).1 (refused_found i p r told e))
 
@@ -65,7 +61,7 @@ module _ (i : List ℕ) (f : Form) (n : ℕ) (k : Accounts) (w : Found i f n k) 
     unfolding examine_lines
     passed = first_passed (shape_lines i) (line_26 i ∷ []) (shape_numbered i) w.lines
 
-    pub examined_unsound : r ≡ false → (p : Parsed) → p ≡ record { accounts = zero_accounts; shape = Refused Unsound } → parts_of p ≡ examined_in i
+    pub examined_unsound : r ≡ false → (p : Parsed) → p ≡ record { accounts = zero_accounts; shape = Err Unsound } → parts_of p ≡ examined_in i
     unfolding examined_in line_26 first_refusal
     examined_unsound e p q =
         refused_by (examine_lines i) p Unsound (record { refusal = 0; form = form_of i; size = size_in i; accounts = accounts_in i }) q

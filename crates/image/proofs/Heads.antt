@@ -16,7 +16,7 @@ use Rattle.layout.proofs.Numbers.{bytes_length}
 use Rattle.layout.proofs.Overwrite.{overwrite_two, overwrite_fits, overwrite_one}
 use Rattle.image_model.specs.declared.Form.{Form}
 use Rattle.image_model.specs.Items.{many}
-use Rattle.image.specs.Parsing.{FormFits, width_of}
+use Rattle.image.specs.Parsing.{FormFits}
 use Rattle.image_model.specs.Stream.{entry_tail, tail_width, marks_of, record_bytes, entry_bytes, entry_width, head_length, head_of}
 use Rattle.image_model.proofs.Items.{many_length}
 use Rattle.image_model.proofs.Entries.{entry_length, record_length}
@@ -85,18 +85,9 @@ module _ (at : ℕ) (s₀ s₁ s₂ : List ℕ) (h : at + 8 ≤ length s₀) whe
 pub entry_inside : (i count w n : ℕ) → i < count → 12 + count * w ≤ n → 12 + (i * w + w) ≤ n
 entry_inside i count w n h l = omega (arith, mul-le-mul_right w h, suc-mul i w)
 
--- a form that is full or not
-unfoldable pub some_form : Bool → Form
-some_form x = record { number = 0; quotas = 0; records = 0; full = x }
-
--- an entry's width by whether the form is full, and the place of an entry
-pub width_is : (f : Form) (full : Bool) → f.full ≡ full → width_of full ≡ entry_width f
-unfolding tail_width
-width_is f full e = ap width_of (sym e)
-
-pub entry_place : (f : Form) (full : Bool) → f.full ≡ full → (t : List ℕ) (i r : ℕ) → r ≡ 12 + i * width_of full
-    → drop r t ≡ drop (i * entry_width f) (drop 12 t)
-entry_place f full e t i r g = ap (λ (n : ℕ). drop n t) (g ∙ ap (λ (w : ℕ). 12 + i * w) (width_is f full e)) ∙ sym (drop-drop (i * entry_width f) 12 t)
+-- the place of an entry
+pub entry_place : (f : Form) (t : List ℕ) (i r : ℕ) → r ≡ 12 + i * entry_width f → drop r t ≡ drop (i * entry_width f) (drop 12 t)
+entry_place f t i r g = ap (λ (n : ℕ). drop n t) g ∙ sym (drop-drop (i * entry_width f) 12 t)
 
 -- a head is never longer than the longest
 pub head_short : (f : Form) → FormFits f → head_length f ≤ 4492

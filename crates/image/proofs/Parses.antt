@@ -2,7 +2,6 @@
 use mathlib.Core.Path.{◌≡◌, refl, ap, sym, ◌∙◌}
 use mathlib.Core.List.{List}
 use mathlib.Core.Bool.{Bool, true, false, ◌&&◌}
-use mathlib.Core.Option.{Option, none, some}
 use Prim.Native.Nat.{ℕ, zero, suc, ◌+◌, ◌/◌, ◌%◌, ◌≤◌}
 use native.Mathlib.Omega.{arith}
 use lib.ListN.{length, take, drop}
@@ -27,13 +26,12 @@ use Rattle.image_model.specs.Answers.{image_refusal_number}
 use Rattle.image_model.specs.Images.{line_21, line_22, line_23, line_24, shape_lines}
 use Rattle.image_model.proofs.Places.{form_is_known, known_shaped}
 use Rattle.image_model.proofs.Answers.{image_refusal_is, image_answer, image_answer_refused}
-use Rattle.image.specs.declared.Shape.{Shape}
-use Rattle.image.specs.declared.Shape.TheVariants.{Image, Refused}
+use Rattle.std.specs.Prelude.{Result, Ok, Err, Option, Some, None}
 use Rattle.image.specs.declared.Parsed.{Parsed}
 use Rattle.image.specs.Parsing.{FormFits, Parts, shape_parts, parts_of, unless_parts, parts_in}
 
 -- a form with a number fits
-pub form_fits : (n : ℕ) (f : Form) → form_numbered n ≡ some f → FormFits f
+pub form_fits : (n : ℕ) (f : Form) → form_numbered n ≡ Some f → FormFits f
 form_fits n f e =
     let s = known_shaped f (form_is_known n f e) in
     record { quotas = s.quotas; records = s.records }
@@ -49,10 +47,10 @@ pub form_2_fits : (f : Form) → f ≡ form_2 → FormFits f
 unfolding form_numbered
 form_2_fits f e = rw e (form_fits 2 form_2 refl)
 
-either_fits : (o : Option Form) → ((f : Form) → o ≡ some f → FormFits f) → FormFits (or_else form_1 o)
+either_fits : (o : Option Form) → ((f : Form) → o ≡ Some f → FormFits f) → FormFits (or_else form_1 o)
 unfolding or_else
-either_fits none h = fits_1
-either_fits (some f) h = h f refl
+either_fits None h = fits_1
+either_fits (Some f) h = h f refl
 
 pub form_of_fits : (i : List ℕ) → FormFits (form_of i)
 unfolding form_of form_in
@@ -112,11 +110,11 @@ module _ (i : List ℕ) where
       refused_frames e = rw (ne_eqb (length i) 0 some_bytes, eq-eqb (length i % 512) 0 whole, sym told ∙ e)
 
       module _ (frames : r ≡ true) where
-        pub refused_number : form_numbered (number (take 2 (stream_of i))) ≡ none → first_refusal (shape_lines i) ≡ 23
+        pub refused_number : form_numbered (number (take 2 (stream_of i))) ≡ None → first_refusal (shape_lines i) ≡ 23
         unfolding shape_lines line_21 line_22 line_23 first_refusal form_in is_none
         refused_number e = rw (ne_eqb (length i) 0 some_bytes, eq-eqb (length i % 512) 0 whole, sym told ∙ frames, e)
 
-        module _ (f : Form) (known : form_numbered (number (take 2 (stream_of i))) ≡ some f) where
+        module _ (f : Form) (known : form_numbered (number (take 2 (stream_of i))) ≡ Some f) where
           pub form_is : f ≡ form_of i
           unfolding form_of form_in or_else
           form_is = rw known
@@ -161,13 +159,13 @@ unfolding unless_parts
 unless_some zero x h = absurd (omega arith)
 unless_some (suc m) x h = refl
 
-pub refused_by : (ls : List Line) (p : Parsed) (r : ImageRefusal) (x : Parts) → p ≡ record { accounts = zero_accounts; shape = Refused r }
+pub refused_by : (ls : List Line) (p : Parsed) (r : ImageRefusal) (x : Parts) → p ≡ record { accounts = zero_accounts; shape = Err r }
     → first_refusal ls ≡ image_refusal_number r → parts_of p ≡ unless_parts (first_refusal ls) x
 unfolding shape_parts
 refused_by ls p r x e l =
     ap parts_of e ∙ unless_some (image_refusal_number r) x (image_refusal_is r).1 ∙ ap (λ (m : ℕ). unless_parts m x) (sym l)
 
-pub refused_parts : (i : List ℕ) (p : Parsed) (r : ImageRefusal) → p ≡ record { accounts = zero_accounts; shape = Refused r }
+pub refused_parts : (i : List ℕ) (p : Parsed) (r : ImageRefusal) → p ≡ record { accounts = zero_accounts; shape = Err r }
     → first_refusal (shape_lines i) ≡ image_refusal_number r → parts_of p ≡ parts_in i
 unfolding parts_in
 refused_parts i p r e l = refused_by (shape_lines i) p r (record { refusal = 0; form = form_of i; size = size_in i; accounts = accounts_in i }) e l
@@ -191,23 +189,23 @@ found_from i f n zero k l e =
     record { lines = l; form = ap (λ (x : Parts). x.form) e; size = ap (λ (x : Parts). x.size) e; accounts = ap (λ (x : Parts). x.accounts) e }
 found_from i f n (suc m) k l e = let z : 0 ≡ suc m = ap (λ (x : Parts). x.refusal) e in absurd (omega arith)
 
-pub image_found : (i : List ℕ) (p : Parsed) (f : Form) (n : ℕ) → parts_of p ≡ parts_in i → p.shape ≡ Image f n → Found i f n p.accounts
+pub image_found : (i : List ℕ) (p : Parsed) (f : Form) (n : ℕ) → parts_of p ≡ parts_in i → p.shape ≡ Ok (f, n) → Found i f n p.accounts
 unfolding shape_parts parts_in
 image_found i p f n told e =
-    found_from i f n (first_refusal (shape_lines i)) p.accounts refl (ap (λ (x : Shape). shape_parts x p.accounts) (sym e) ∙ told)
+    found_from i f n (first_refusal (shape_lines i)) p.accounts refl (ap (λ (x : Result (Form × ℕ) ImageRefusal). shape_parts x p.accounts) (sym e) ∙ told)
 
 number_from : (m r : ℕ) (x : Parts) → 1 ≤ r → x.refusal ≡ 0 → r ≡ (unless_parts m x).refusal → m ≡ r
 unfolding unless_parts
 number_from zero r x h z e = absurd (omega arith)
 number_from (suc m) r x h z e = sym e
 
-pub refused_found : (i : List ℕ) (p : Parsed) (r : ImageRefusal) → parts_of p ≡ parts_in i → p.shape ≡ Refused r
+pub refused_found : (i : List ℕ) (p : Parsed) (r : ImageRefusal) → parts_of p ≡ parts_in i → p.shape ≡ Err r
     → (first_refusal (shape_lines i) ≡ image_refusal_number r)
 unfolding shape_parts parts_in
 refused_found i p r told e =
     let x : Parts = record { refusal = 0; form = form_of i; size = size_in i; accounts = accounts_in i } in
     number_from (first_refusal (shape_lines i)) (image_refusal_number r) x (image_refusal_is r).1 refl
-    (ap (λ (y : Parts). y.refusal) (ap (λ (y : Shape). shape_parts y p.accounts) (sym e) ∙ told))
+    (ap (λ (y : Parts). y.refusal) (ap (λ (y : Result (Form × ℕ) ImageRefusal). shape_parts y p.accounts) (sym e) ∙ told))
 
 -- no line has the number 0
 pub shape_numbered : (i : List ℕ) → Numbered (shape_lines i)
@@ -229,18 +227,18 @@ pub found_fits : (i : List ℕ) (f : Form) (n : ℕ) (k : Accounts) → Found i 
 found_fits i f n k w = rw w.form (form_of_fits i)
 
 -- no two answers come to the same parts
-shape_from : Parts → Shape
-shape_from x = image_answer (Image x.form x.size) Refused x.refusal
+shape_from : Parts → Result (Form × ℕ) ImageRefusal
+shape_from x = image_answer (Ok (x.form, x.size)) Err x.refusal
 
-shape_back : (s : Shape) (k : Accounts) → shape_from (shape_parts s k) ≡ s
+shape_back : (s : Result (Form × ℕ) ImageRefusal) (k : Accounts) → shape_from (shape_parts s k) ≡ s
 unfolding shape_from shape_parts
-shape_back (Image f n) k = refl
-shape_back (Refused r) k = image_answer_refused (Image form_1 0) Refused r
+shape_back (Ok (f, n)) k = refl
+shape_back (Err r) k = image_answer_refused (Ok (form_1, 0)) Err r
 
-accounts_back : (s : Shape) (k : Accounts) → (shape_parts s k).accounts ≡ k
+accounts_back : (s : Result (Form × ℕ) ImageRefusal) (k : Accounts) → (shape_parts s k).accounts ≡ k
 unfolding shape_parts
-accounts_back (Image f n) k = refl
-accounts_back (Refused r) k = refl
+accounts_back (Ok (f, n)) k = refl
+accounts_back (Err r) k = refl
 
 pub parts_of_injective : (p q : Parsed) → parts_of p ≡ parts_of q → p ≡ q
 parts_of_injective p q e =
@@ -249,27 +247,28 @@ parts_of_injective p q e =
     λ i. record { accounts = k i; shape = s i }
 
 -- a shape stands with the accounts that the image has
-own_accounts : (i : List ℕ) (s : Shape) (k : Accounts) → shape_parts s k ≡ parts_in i → shape_parts s (parts_in i).accounts ≡ parts_in i
+own_accounts : (i : List ℕ) (s : Result (Form × ℕ) ImageRefusal) (k : Accounts) → shape_parts s k ≡ parts_in i
+    → shape_parts s (parts_in i).accounts ≡ parts_in i
 own_accounts i s k e = ap (shape_parts s) (sym (ap (λ (x : Parts). x.accounts) e) ∙ accounts_back s k) ∙ e
 
 pub refused_shape : (i : List ℕ) (r : ImageRefusal) → first_refusal (shape_lines i) ≡ image_refusal_number r
-    → shape_parts (Refused r) (parts_in i).accounts ≡ parts_in i
-refused_shape i r l = own_accounts i (Refused r) zero_accounts (refused_parts i (record { accounts = zero_accounts; shape = Refused r }) r refl l)
+    → shape_parts (Err r) (parts_in i).accounts ≡ parts_in i
+refused_shape i r l = own_accounts i (Err r) zero_accounts (refused_parts i (record { accounts = zero_accounts; shape = Err r }) r refl l)
 
 pub found_shape : (i : List ℕ) (f : Form) (n : ℕ) → first_refusal (shape_lines i) ≡ 0 → f ≡ form_of i → n ≡ size_in i
-    → shape_parts (Image f n) (parts_in i).accounts ≡ parts_in i
+    → shape_parts (Ok (f, n)) (parts_in i).accounts ≡ parts_in i
 unfolding shape_parts
 found_shape i f n l e g =
-    own_accounts i (Image f n) (accounts_in i) (found_parts i f n (accounts_in i) (record { lines = l; form = e; size = g; accounts = refl }))
+    own_accounts i (Ok (f, n)) (accounts_in i) (found_parts i f n (accounts_in i) (record { lines = l; form = e; size = g; accounts = refl }))
 
 -- what was found by a shape: the accounts are those that a stream of its form says
-pub shape_found : (i : List ℕ) (s : Shape) (f : Form) (n : ℕ) → shape_parts s (parts_in i).accounts ≡ parts_in i → s ≡ Image f n
+pub shape_found : (i : List ℕ) (s : Result (Form × ℕ) ImageRefusal) (f : Form) (n : ℕ) → shape_parts s (parts_in i).accounts ≡ parts_in i → s ≡ Ok (f, n)
     → Found i f n (accounts_of f (stream_of i))
 unfolding accounts_in
 shape_found i s f n told e =
     let w = image_found i (record { accounts = (parts_in i).accounts; shape = s }) f n told e in
     record { lines = w.lines; form = w.form; size = w.size; accounts = ap (λ (x : Form). accounts_of x (stream_of i)) w.form }
 
-pub shape_refused : (i : List ℕ) (s : Shape) (r : ImageRefusal) → shape_parts s (parts_in i).accounts ≡ parts_in i → s ≡ Refused r
+pub shape_refused : (i : List ℕ) (s : Result (Form × ℕ) ImageRefusal) (r : ImageRefusal) → shape_parts s (parts_in i).accounts ≡ parts_in i → s ≡ Err r
     → first_refusal (shape_lines i) ≡ image_refusal_number r
 shape_refused i s r told e = refused_found i (record { accounts = (parts_in i).accounts; shape = s }) r told e

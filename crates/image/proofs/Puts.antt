@@ -12,20 +12,16 @@ use Rattle.accounts.specs.declared.Accounts.{Accounts}
 use Rattle.accounts.specs.Accounts.{unused}
 use Rattle.layout.specs.Bytes.{bytes}
 use Rattle.model.specs.declared.Refusal.{Refusal}
-use Rattle.model.specs.declared.Verdict.{Verdict}
-use Rattle.model.specs.declared.Verdict.TheVariants.{Accepted, Refused}
 use Rattle.model.specs.Answers.{verdict_values}
 use Rattle.model.specs.Refusals.{first_refusal, line_1, line_2}
 use Rattle.model.specs.Consistent.{allowed}
 use Rattle.lists.specs.Lists.{all}
 use Rattle.model.specs.Calls.{check}
 use Rattle.results.proofs.Lines.{check_refuses, check_accepts, number_some}
-use Rattle.framing.specs.declared.FrameAnswer.{FrameAnswer}
-use Rattle.framing.specs.declared.FrameAnswer.TheVariants.{Written as FramesWritten, NoRoom}
+use Rattle.std.specs.Prelude.{Option, Err, ok_or, Result, Ok}
 use Rattle.framing.specs.Frames.{frames_for, has_room, Framed, write_frames}
 use Rattle.image_model.specs.declared.Form.{Form}
 use Rattle.image_model.specs.declared.ImageRefusal.TheVariants.{Call, Room, NotCarried}
-use Rattle.image_model.specs.declared.WriteAnswer.TheVariants.{Written, Refused as NotWritten}
 use Rattle.image_model.specs.Stream.{no_grant, all_permitted, carries, head_length, head_of, stream, image_of, image_length}
 use Rattle.image_model.specs.Answers.{Imaged, imaged}
 use Rattle.image_model.specs.Images.{line_28, put_lines, write_lines, unless_written, write_image}
@@ -34,13 +30,8 @@ use Rattle.image_model.proofs.Places.{full_carries}
 use Rattle.image.proofs.Heads.{head_short}
 use Rattle.image.proofs.Marked.{marks_zero}
 
--- what the frames answer, as an image
-unfoldable pub as_image : List ℕ → FrameAnswer → Imaged
-as_image o (FramesWritten n) = imaged o (Written n)
-as_image o NoRoom = imaged o (NotWritten Room)
-
 -- accounts that the form does not carry are refused
-pub put_uncarried : (f : Form) (o s : List ℕ) (k : Accounts) → carries f k ≡ false → imaged o (NotWritten NotCarried) ≡ put_image f o s k
+pub put_uncarried : (f : Form) (o s : List ℕ) (k : Accounts) → carries f k ≡ false → imaged o (Err NotCarried) ≡ put_image f o s k
 unfolding imaged put_image put_lines line_28 unless_written first_refusal
 put_uncarried f o s k c = rw c
 
@@ -63,29 +54,28 @@ module _ (f : Form) (fits : FormFits f) (o s : List ℕ) (k : Accounts) (carried
       lt-ltb ((head_length f + length s + 503) / 504) 65536 (omega arith)
 
   framed : Framed → Imaged
-  framed r = as_image r.image r.answer
+  framed r = imaged r.image (ok_or r.answer Room)
 
   framed_short : length o < 512 * count → framed (write_frames o (stream f s k)) ≡ put_image f o s k
-  unfolding framed as_image write_frames has_room put_image put_lines line_28 image_length unless_written first_refusal imaged
+  unfolding framed write_frames has_room put_image put_lines line_28 image_length unless_written first_refusal imaged
   framed_short l = rw (carried, stream_long, countable, lt-leb (512 * count) (length o) l, lt-ltb (length o) (512 * count) l)
 
   framed_room : 512 * count ≤ length o → framed (write_frames o (stream f s k)) ≡ put_image f o s k
-  unfolding framed as_image write_frames has_room put_image put_lines line_28 image_of image_length unless_written first_refusal imaged
+  unfolding framed write_frames has_room put_image put_lines line_28 image_of image_length unless_written first_refusal imaged
   framed_room l = rw (carried, stream_long, countable, le-leb (512 * count) (length o) l, le-ltb (length o) (512 * count) l)
 
   framed_put : (x : Bool) → ltb (length o) (512 * count) ≡ x → framed (write_frames o (stream f s k)) ≡ put_image f o s k
   framed_put true e = framed_short (ltb-true (length o) (512 * count) e)
   framed_put false e = framed_room (ltb-false (length o) (512 * count) e)
 
-  pub put_by_frames : (o' : List ℕ) (a b : FrameAnswer) → record { image = o'; answer = a } ≡ write_frames o (h ++ s) → a ≡ b
-      → as_image o' b ≡ put_image f o s k
+  pub put_by_frames : (o' : List ℕ) (a : Option ℕ) → record { image = o'; answer = a } ≡ write_frames o (h ++ s)
+      → imaged o' (ok_or a Room) ≡ put_image f o s k
   unfolding framed
-  put_by_frames o' a b w g =
-      ap (as_image o') (sym g) ∙ ap framed (w ∙ ap (write_frames o) stream_is) ∙ framed_put (ltb (length o) (512 * count)) refl
+  put_by_frames o' a w = ap framed (w ∙ ap (write_frames o) stream_is) ∙ framed_put (ltb (length o) (512 * count)) refl
 
 -- behind the check: what it refuses is refused, what it accepts is put
-module _ (f : Form) (o s : List ℕ) (k : Accounts) (v : Verdict) (told : verdict_values v ≡ (check (table k.edition) s k).values) where
-  pub write_refused : (r : Refusal) → v ≡ Refused r → imaged o (NotWritten (Call r)) ≡ write_image f o s k
+module _ (f : Form) (o s : List ℕ) (k : Accounts) (v : Result (Unit {0}) Refusal) (told : verdict_values v ≡ (check (table k.edition) s k).values) where
+  pub write_refused : (r : Refusal) → v ≡ Err r → imaged o (Err (Call r)) ≡ write_image f o s k
   unfolding imaged write_image unless_written write_lines
   write_refused r e =
       let n = number_some r in
@@ -93,7 +83,7 @@ module _ (f : Form) (o s : List ℕ) (k : Accounts) (v : Verdict) (told : verdic
       check_refuses (table k.edition) s k v told (put_lines f o s k) r e ∙ n.1 in
       rw (n.1, g)
 
-  pub write_accepted : v ≡ Accepted → put_image f o s k ≡ write_image f o s k
+  pub write_accepted : v ≡ Ok tt → put_image f o s k ≡ write_image f o s k
   unfolding put_image write_image write_lines
   write_accepted e = rw (check_accepts (table k.edition) s k v told (put_lines f o s k) e)
 

@@ -13,8 +13,6 @@ use Rattle.accounts.specs.declared.Accounts.{Accounts}
 use Rattle.accounts.specs.Accounts.{zero_accounts}
 use Rattle.words.specs.Words.{Unpadded}
 use Rattle.model.specs.declared.Refusal.{Refusal}
-use Rattle.model.specs.declared.Verdict.{Verdict}
-use Rattle.model.specs.declared.Verdict.TheVariants.{Accepted, Refused}
 use Rattle.model.specs.Answers.{verdict_values}
 use Rattle.lists.specs.Lists.{all}
 use Rattle.model.specs.Consistent.{allowed}
@@ -27,7 +25,7 @@ use Rattle.framing.specs.Frames.{padded, stream_of}
 use Rattle.image_model.specs.declared.Form.{Form}
 use Rattle.image_model.specs.declared.ImageRefusal.{ImageRefusal}
 use Rattle.image_model.specs.declared.ImageRefusal.TheVariants.{Room, Unsound}
-use Rattle.image_model.specs.declared.ReadAnswer.TheVariants.{Restored, Refused as NotRestored}
+use Rattle.std.specs.Prelude.{Ok, Err, Result}
 use Rattle.image_model.specs.Stream.{head_length}
 use Rattle.image_model.specs.Reading.{size_in, heap_of, heap_in}
 use Rattle.image_model.specs.Answers.{RestoredTo, restored_to, image_refusal_number}
@@ -39,11 +37,11 @@ use Rattle.image.specs.Restoring.{Left}
 use Rattle.image.proofs.Parses.{Found, shape_numbered}
 
 -- an allowed heap is consistent exactly if the check accepts it
-module _ (s r : List ℕ) (k : Accounts) (v : Verdict) (told : verdict_values v ≡ (check (table k.edition) s k).values) (is : s ≡ r) where
-  pub check_consistent : v ≡ Accepted → true ≡ own_consistent r k
+module _ (s r : List ℕ) (k : Accounts) (v : Result (Unit {0}) Refusal) (told : verdict_values v ≡ (check (table k.edition) s k).values) (is : s ≡ r) where
+  pub check_consistent : v ≡ Ok tt → true ≡ own_consistent r k
   check_consistent e = sym (check_accounted (table k.edition) s k v told e).2 ∙ ap (λ (x : List ℕ). own_consistent x k) is
 
-  pub check_unsound : allowed (length s) ≡ true → (x : Refusal) → v ≡ Refused x → false ≡ own_consistent r k
+  pub check_unsound : allowed (length s) ≡ true → (x : Refusal) → v ≡ Err x → false ≡ own_consistent r k
   unfolding line_1 line_2 first_refusal
   check_unsound a x e =
       let n = number_some x in
@@ -56,18 +54,18 @@ module _ (s r : List ℕ) (k : Accounts) (v : Verdict) (told : verdict_values v 
 
 -- what is left of reading: 25, 26, or the heap
 module _ (f : Form) (n : ℕ) (t h : List ℕ) (k : Accounts) where
-  pub restore_room : (length h ≡ n → ⊥) → restored_to h zero_accounts (NotRestored Room) ≡ restore f n t h k
+  pub restore_room : (length h ≡ n → ⊥) → restored_to h zero_accounts (Err Room) ≡ restore f n t h k
   unfolding restore restored_to unless_read first_refusal
   restore_room e = rw (ne_eqb (length h) n e)
 
   module _ (room : length h ≡ n) (at : ℕ) (is : at ≡ head_length f) where
     pub restore_unsound : (r : Bool) → r ≡ own_consistent (padded n (drop at t)) k → r ≡ false
-        → restored_to h zero_accounts (NotRestored Unsound) ≡ restore f n t h k
+        → restored_to h zero_accounts (Err Unsound) ≡ restore f n t h k
     unfolding restore restored_to unless_read first_refusal
     restore_unsound r e g = rw (eq-eqb (length h) n room, ← is, sym e ∙ g)
 
     pub restore_done : (r : Bool) (h' : List ℕ) → r ≡ own_consistent (padded n (drop at t)) k → r ≡ true → h' ≡ padded (length h) (drop at t)
-        → restored_to h' k Restored ≡ restore f n t h k
+        → restored_to h' k (Ok tt) ≡ restore f n t h k
     unfolding restore restored_to unless_read first_refusal
     restore_done r h' e g w = rw (eq-eqb (length h) n room, ← is, sym e ∙ g, w, room)
 
@@ -91,7 +89,7 @@ refused_by i h (suc m) l e = rw (first_kept (shape_lines i) (line_25 i h ∷ lin
 
 -- an image that its own bytes refuse, and one that they do not
 pub read_refused : (i h : List ℕ) (r : ImageRefusal) → first_refusal (shape_lines i) ≡ image_refusal_number r
-    → restored_to h zero_accounts (NotRestored r) ≡ read_image i h
+    → restored_to h zero_accounts (Err r) ≡ read_image i h
 unfolding restored_to
 read_refused i h r e = refused_by i h (image_refusal_number r) (image_refusal_is r).1 e
 
@@ -104,7 +102,7 @@ read_restored i h f n k w =
 -- what a restore leaves where heap and accounts are in use, from what a read into other words leaves
 module _ (i h s : List ℕ) (k read : Accounts) where
   -- accepted: the accounts read take the place of those before
-  pub restored_read : restored_to s read Restored ≡ read_image i h → restored_to s read Restored ≡ restore_image i h k
+  pub restored_read : restored_to s read (Ok tt) ≡ read_image i h → restored_to s read (Ok tt) ≡ restore_image i h k
   unfolding restored_to restore_image kept_unless
   restored_read e = rw (sym e)
 
@@ -114,20 +112,20 @@ module _ (i h s : List ℕ) (k read : Accounts) where
   keeps (suc n) l = refl
 
   -- refused: the accounts from before stay
-  pub restored_kept : (r : ImageRefusal) → restored_to s read (NotRestored r) ≡ read_image i h
-      → restored_to s k (NotRestored r) ≡ restore_image i h k
+  pub restored_kept : (r : ImageRefusal) → restored_to s read (Err r) ≡ read_image i h
+      → restored_to s k (Err r) ≡ restore_image i h k
   unfolding restored_to restore_image
   restored_kept r e =
       let n = image_refusal_number r in
       rw (sym e) (λ j. record { heap = s; accounts = keeps n (image_refusal_is r).1 j; refusal = n })
 
   -- and the words, with and without padding
-  pub left_read : (w v : List ℕ) → restored_to s read Restored ≡ restore_image i h k → Unpadded v
+  pub left_read : (w v : List ℕ) → restored_to s read (Ok tt) ≡ restore_image i h k → Unpadded v
       → Left (restore_image i h k).refusal w v
   unfolding restored_to
   left_read w v e u = subst (λ (n : ℕ). Left n w v) (ap (λ (r : RestoredTo). r.refusal) e) u
 
-  pub left_kept : (w : List ℕ) (r : ImageRefusal) → restored_to s k (NotRestored r) ≡ restore_image i h k
+  pub left_kept : (w : List ℕ) (r : ImageRefusal) → restored_to s k (Err r) ≡ restore_image i h k
       → Left (restore_image i h k).refusal w w
   unfolding restored_to
   left_kept w r e =

@@ -8,7 +8,7 @@ use Rattle.accounts.specs.Accounts.{QUOTAS, zero_accounts, plain, opened}
 use Rattle.image_model.specs.Stream.{form_1, form_2, image_of}
 use Rattle.image_model.specs.declared.ImageRefusal.TheVariants.{Contents}
 use Rattle.image_model.proofs.Computing.{computing}
-use Rattle.image.specs.declared.Shape.TheVariants.{Image, Refused}
+use Rattle.std.specs.Prelude.{Ok, Err}
 use Rattle.image.specs.Parsing.{Parts, shape_parts, unless_parts, parts_in, examined_in, length_for}
 
 accounts : Accounts
@@ -32,8 +32,8 @@ examined_rows : (examined_in image ≡ no_parts 26) × (examined_in (take 512 im
 unfolding computing examined_in unless_parts accounts image no_parts
 examined_rows = (refl, refl, refl)
 
-shape_rows : (shape_parts (Image form_1 64) accounts ≡ record { refusal = 0; form = form_1; size = 64; accounts = accounts })
-    × (shape_parts (Refused Contents) zero_accounts ≡ no_parts 24)
+shape_rows : (shape_parts (Ok (form_1, 64)) accounts ≡ record { refusal = 0; form = form_1; size = 64; accounts = accounts })
+    × (shape_parts (Err Contents) zero_accounts ≡ no_parts 24)
 unfolding shape_parts no_parts
 shape_rows = (refl, refl)
 

@@ -1,6 +1,5 @@
 -- What the tests of an image alone find, those before the lent heap and its consistency are looked at.
-use Rattle.std.specs.Prelude.{ℕ, zero, suc, ◌+◌, ◌≤◌, List, [], ◌∷◌, Bool, not, cond, length, drop, eqb}
-use Rattle.std.proofs.Math.Option.{Option, none, some}
+use Rattle.std.specs.Prelude.{ℕ, zero, suc, ◌+◌, ◌≤◌, List, [], ◌∷◌, Bool, not, cond, length, drop, eqb, Result, Ok, Err, Option, Some, None}
 use Rattle.accounts.specs.declared.Accounts.{Accounts}
 use Rattle.accounts.specs.Accounts.{QUOTAS, HOLDS, zero_accounts}
 use Rattle.layout.specs.Bytes.{overwrite}
@@ -8,14 +7,11 @@ use Rattle.model.specs.Consistent.{allowed}
 use Rattle.model.specs.Refusals.{◌when◌, first_refusal}
 use Rattle.framing.specs.Frames.{padded}
 use Rattle.image_model.specs.declared.Form.{Form}
+use Rattle.image_model.specs.declared.ImageRefusal.{ImageRefusal}
 use Rattle.image_model.specs.Answers.{image_refusal_number, Imaged, RestoredTo}
 use Rattle.image_model.specs.Stream.{form_1, head_length, image_of, image_length}
 use Rattle.image_model.specs.Reading.{form_of, size_in, accounts_in}
 use Rattle.image_model.specs.Images.{own_consistent, shape_lines, examine_lines, put_lines, unless_written, unless_read}
-use Rattle.image.specs.declared.FormAnswer.{FormAnswer}
-use Rattle.image.specs.declared.FormAnswer.TheVariants.{Known, Unknown}
-use Rattle.image.specs.declared.Shape.{Shape}
-use Rattle.image.specs.declared.Shape.TheVariants.{Image, Refused}
 use Rattle.image.specs.declared.Parsed.{Parsed}
 
 -- a form that the library's arrays have room for
@@ -23,13 +19,9 @@ pub record FormFits (f : Form) : Type 0 where
   pub quotas : f.quotas ≤ QUOTAS
   pub records : f.records ≤ HOLDS
 
--- how many bytes an entry has, in a form that is full or not
-abbrev pub width_of : Bool → ℕ
-width_of full = 8 + cond full 4 0
-
-abbrev pub known_form : FormAnswer → Option Form
-known_form (Known f) = some f
-known_form Unknown = none
+abbrev pub known_form : Option Form → Option Form
+known_form (Some f) = Some f
+known_form None = None
 
 -- an image's form, heap length and accounts, or the number of the refusal that its own bytes give
 pub record Parts : Type 0 where
@@ -39,9 +31,9 @@ pub record Parts : Type 0 where
   pub accounts : Accounts
 
 -- a refused image has no parts: form 1, no byte and zero accounts stand for them
-unfoldable pub shape_parts : Shape → Accounts → Parts
-shape_parts (Image f n) k = record { refusal = 0; form = f; size = n; accounts = k }
-shape_parts (Refused r) k = record { refusal = image_refusal_number r; form = form_1; size = 0; accounts = k }
+unfoldable pub shape_parts : Result (Form × ℕ) ImageRefusal → Accounts → Parts
+shape_parts (Ok (f, n)) k = record { refusal = 0; form = f; size = n; accounts = k }
+shape_parts (Err r) k = record { refusal = image_refusal_number r; form = form_1; size = 0; accounts = k }
 
 abbrev pub parts_of : Parsed → Parts
 parts_of p = shape_parts p.shape p.accounts

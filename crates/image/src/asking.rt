@@ -8,7 +8,7 @@ use crate::forms::{form_1, form_numbered, heap_at};
 use crate::numbers::{read_pair, read_quad};
 use crate::parsing::{parse_image, read_accounts, refused};
 use crate::reading::is_consistent;
-use crate::{FormAnswer, HeapPlace, Parsed, Shape};
+use crate::{HeapPlace, Parsed};
 use accounts::Accounts;
 use image_model::{Form, ImageRefusal};
 
@@ -16,10 +16,7 @@ use image_model::{Form, ImageRefusal};
 pub fn form_of(image: &[u8]) -> Form
     ensures { result ≡ form_of image.now }
 {
-    let FormAnswer::Known(form) = form_numbered(read_pair(image, 0)) else {
-        return form_1();
-    };
-    form
+    form_numbered(read_pair(image, 0)).unwrap_or(form_1())
 }
 
 // The accounts that an image says, whatever its bytes are: nothing is judged. `comparison` asks it of images that it
@@ -46,13 +43,11 @@ pub fn examine(image: &[u8]) -> Parsed
     ensures { parts_of result ≡ examined_in image.now }
 {
     let parsed = parse_image(image);
-    let accounts = parsed.accounts;
-    let shape = parsed.shape;
-    let Shape::Image(form, size) = shape else {
+    let Ok((form, size)) = parsed.shape else {
         return parsed;
     };
     let from = heap_at(form) as u16;
-    if !is_consistent(image, from, size, accounts) {
+    if !is_consistent(image, from, size, parsed.accounts) {
         return refused(ImageRefusal::Unsound);
     }
     parsed

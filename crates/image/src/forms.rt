@@ -1,10 +1,9 @@
 // The forms of image by their numbers, and where their parts lie.
 ghost use Rattle.std.specs.Prelude.{◌≡◌, ◌+◌, ◌*◌, ◌≤◌};
 ghost use Rattle.accounts.specs.Accounts.{QUOTAS};
-ghost use Rattle.image_model.specs.Stream.{form_1, form_2, form_numbered, entries_at, head_length};
-ghost use Rattle.image.specs.Parsing.{FormFits, known_form, width_of};
+ghost use Rattle.image_model.specs.Stream.{form_1, form_2, form_numbered, entries_at, entry_width, head_length};
+ghost use Rattle.image.specs.Parsing.{FormFits, known_form};
 
-use crate::FormAnswer;
 use image_model::Form;
 
 // The longest head of an image.
@@ -35,24 +34,24 @@ pub(crate) fn form_2() -> Form
 }
 
 // The form with a number, if there is one.
-pub(crate) fn form_numbered(number: u32) -> FormAnswer
+pub(crate) fn form_numbered(number: u32) -> Option<Form>
     ensures { known_form result ≡ form_numbered number }
 {
     if number == 1 {
-        return FormAnswer::Known(form_1());
+        return Some(form_1());
     }
     if number == 2 {
-        return FormAnswer::Known(form_2());
+        return Some(form_2());
     }
-    FormAnswer::Unknown
+    None
 }
 
-// Where an entry begins, in a form that is full or not; the records begin behind the last.
-pub(crate) fn entry_at(entry: usize, full: bool) -> usize
+// Where an entry begins in a form; the records begin behind the last.
+pub(crate) fn entry_at(entry: usize, form: Form) -> usize
     requires { entry ≤ QUOTAS }
-    ensures { (result ≡ entries_at + entry * width_of full) × (result ≤ 12 + entry * 12) }
+    ensures { (result ≡ entries_at + entry * entry_width form) × (result ≤ 12 + entry * 12) }
 {
-    if full {
+    if form.full {
         return 12 + entry * 12;
     }
     12 + entry * 8
@@ -63,5 +62,5 @@ pub(crate) fn heap_at(form: Form) -> usize
     requires { FormFits form }
     ensures { (result ≡ head_length form) × (result ≤ 4492) }
 {
-    entry_at(form.quotas, form.full) + form.records * 8
+    entry_at(form.quotas, form) + form.records * 8
 }

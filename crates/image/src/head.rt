@@ -16,17 +16,14 @@ pub(crate) fn write_head(head: &mut [u8], form: Form, size: u32, words: &[u32; W
     requires { FormFits form × (length head.old ≡ head_length form) }
     ensures { head.new ≡ head_of form size (accounts_of words.now) }
 {
-    let count = form.quotas;
-    let records = form.records;
-    let full = form.full;
     layout::write_u16(head, 0, form.number);
     layout::write_u16(
         head,
         2,
-        marks(full, words::kind(words), words::edition(words)),
+        marks(form, words::kind(words), words::edition(words)),
     );
     layout::write_u32(head, 4, size);
     layout::write_u32(head, 8, words::last_serial(words));
-    write_entries(head, words, count, full);
-    write_records(head, entry_at(count, full), words, records);
+    write_entries(head, words, form);
+    write_records(head, entry_at(form.quotas, form), words, form.records);
 }

@@ -22,25 +22,12 @@ pub use parsing::{parse_image, shape_of};
 pub use reading::read_image;
 pub use writing::{form_1_length, image_length, write_form_1, write_image};
 
-// The form with a number, if there is one.
-#[derive(Clone, Copy)]
-pub(crate) enum FormAnswer {
-    Known(Form),
-    Unknown,
-}
-
-// What an image is by its own bytes: its form and the heap's length, or why it is refused.
-#[derive(Clone, Copy)]
-pub enum Shape {
-    Image(Form, usize),
-    Refused(ImageRefusal),
-}
-
-// An image's shape and its accounts, all zero where it is refused.
+// What an image is by its own bytes, its form and the heap's length, or why it is refused; and its accounts, all zero
+// where it is refused.
 #[derive(Clone, Copy)]
 pub struct Parsed {
     pub accounts: Accounts,
-    pub shape: Shape,
+    pub shape: Result<(Form, usize), ImageRefusal>,
 }
 
 // Where the heap of an image begins in its stream, and how many bytes it has.

@@ -4,25 +4,25 @@ ghost use Rattle.layout.specs.Bytes.{bytes};
 ghost use Rattle.framing.specs.Frames.{stream_of};
 ghost use Rattle.image_model.specs.Stream.{marks_right};
 ghost use Rattle.image_model.specs.Reading.{marks_in};
-ghost use Rattle.image_model.specs.declared.Form.{Form};
 
 use crate::numbers::{read_pair, wide};
+use image_model::Form;
 
 // The two bytes as one number.
-pub(crate) fn marks(full: bool, kind: u8, edition: u8) -> u32
-    ensures { (bytes 2 result ≡ cond full (bytes 1 edition ++ bytes 1 kind) (replicate 2 0)) × (result < 65536) }
+pub(crate) fn marks(form: Form, kind: u8, edition: u8) -> u32
+    ensures { (bytes 2 result ≡ cond form.full (bytes 1 edition ++ bytes 1 kind) (replicate 2 0)) × (result < 65536) }
 {
-    if !full {
+    if !form.full {
         return 0;
     }
     wide(edition) + 256 * wide(kind)
 }
 
 // Whether the two bytes of an image are right.
-pub(crate) fn marks_right(image: &[u8], full: bool) -> bool
-    ensures { (f : Form) → f.full ≡ full → result ≡ marks_right f (marks_in (stream_of image.now)) }
+pub(crate) fn marks_right(image: &[u8], form: Form) -> bool
+    ensures { result ≡ marks_right form (marks_in (stream_of image.now)) }
 {
-    if !full {
+    if !form.full {
         return read_pair(image, 2) == 0;
     }
     if 2 <= framing::stream_at(image, 2) {
@@ -32,20 +32,20 @@ pub(crate) fn marks_right(image: &[u8], full: bool) -> bool
 }
 
 // The kind that an image says; a form that is not full says that the heap is plain.
-pub(crate) fn read_kind(image: &[u8], full: bool) -> u8
-    ensures { result ≡ cond full (get_or (stream_of image.now) 3 0) 0 }
+pub(crate) fn read_kind(image: &[u8], form: Form) -> u8
+    ensures { result ≡ cond form.full (get_or (stream_of image.now) 3 0) 0 }
 {
-    if !full {
+    if !form.full {
         return 0;
     }
     framing::stream_at(image, 3)
 }
 
 // The edition that an image says; a form that is not full says edition 1.
-pub(crate) fn read_edition(image: &[u8], full: bool) -> u8
-    ensures { result ≡ cond full (get_or (stream_of image.now) 2 0) 0 }
+pub(crate) fn read_edition(image: &[u8], form: Form) -> u8
+    ensures { result ≡ cond form.full (get_or (stream_of image.now) 2 0) 0 }
 {
-    if !full {
+    if !form.full {
         return 0;
     }
     framing::stream_at(image, 2)

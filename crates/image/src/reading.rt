@@ -9,7 +9,7 @@ ghost use Rattle.image_model.specs.Images.{own_consistent, read_image};
 use crate::in_place;
 use accounts::Accounts;
 use image_model::ReadResult;
-use model::Verdict;
+use model::Refusal;
 use words::WORDS;
 
 // Whether an image's heap, of so many bytes of the stream from a place on, is consistent with the accounts that the words hold. It is checked where it lies: a
@@ -18,7 +18,7 @@ pub(crate) fn is_consistent_in(image: &[u8], from: u16, size: usize, words: &[u3
     requires { allowed size ≡ true }
     ensures { result ≡ own_consistent (padded size (drop from (stream_of image.now))) (accounts_of words.now) }
 {
-    let Verdict::Accepted = survey::check_in_frames(image, from, size, words) else {
+    let Ok(()) = survey::check_in_frames(image, from, size, words) else {
         return false;
     };
     true

@@ -18,13 +18,10 @@ use words::WORDS;
 pub(crate) fn none_used(words: &[u32; WORDS], from: usize) -> bool
     ensures { result ≡ all unused (drop from (holds_of words.now)) }
 {
-    let mut i = from;
-    while i < HOLDS {
-        let hold = words::hold_at(words, i);
-        if hold.is_used() {
+    for i in from..HOLDS {
+        if words::hold_at(words, i).is_used() {
             return false;
         }
-        i += 1;
     }
     true
 }
@@ -49,15 +46,14 @@ fn write_record(head: &mut [u8], at: usize, hold: Hold)
 }
 
 // The first records, so many of them, from a place of the head on.
+// One function for these and the entries would take closures that read and write an item, and is no plainer.
 pub(crate) fn write_records(head: &mut [u8], at: usize, words: &[u32; WORDS], count: usize)
     requires { (count ≤ HOLDS) × (at + count * 8 ≤ length head.old) }
     ensures { head.new ≡ overwrite at (many record_bytes (take count (holds_of words.now))) head.old }
 {
-    let mut i: usize = 0;
-    while i < count {
+    for i in 0..count {
         let hold = words::hold_at(words, i);
         write_record(head, at + i * 8, hold);
-        i += 1;
     }
 }
 
@@ -73,32 +69,15 @@ pub(crate) fn read_record(image: &[u8], at: usize) -> Hold
     }
 }
 
-// The first records from a place of the stream on, so many of them; the others are blank.
-pub(crate) fn read_records(image: &[u8], at: usize, count: usize) -> [Hold; HOLDS]
-    requires { (count ≤ HOLDS) × (at < 65536) }
-    ensures { (f : Form) → result ≡ each record_of record_width count (drop at (stream_of image.now)) ++ drop count (blank f).holds }
-{
-    let zero = Hold::zero();
-    let mut holds = [zero; HOLDS];
-    let mut i: usize = 0;
-    while i < count {
-        holds[i] = read_record(image, at + i * 8);
-        i += 1;
-    }
-    holds
-}
-
 // Whether so many records from a place of the stream on have zeros in their spare bytes.
 pub(crate) fn spares_right(image: &[u8], at: usize, count: usize) -> bool
     requires { (count ≤ HOLDS) × (at < 65536) }
     ensures { result ≡ every record_right record_width count (drop at (stream_of image.now)) }
 {
-    let mut i: usize = 0;
-    while i < count {
+    for i in 0..count {
         if read_pair(image, at + i * 8 + 6) != 0 {
             return false;
         }
-        i += 1;
     }
     true
 }

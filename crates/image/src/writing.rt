@@ -8,7 +8,7 @@ ghost use Rattle.image.specs.Parsing.{FormFits, length_for};
 use crate::forms::{form_1, form_2, heap_at};
 use crate::in_place;
 use accounts::Accounts;
-use image_model::{Form, WriteAnswer};
+use image_model::{Form, ImageRefusal};
 
 // The length of an image of a heap of so many bytes in a form, 0 where no heap has that length.
 fn length_in(form: Form, size: usize) -> usize
@@ -36,7 +36,7 @@ pub fn form_1_length(size: usize) -> usize
 }
 
 // The image of a heap and its accounts in form 2, written at the front of a lent one; its other bytes stay.
-pub fn write_image(image: &mut [u8], heap: &[u8], accounts: Accounts) -> WriteAnswer
+pub fn write_image(image: &mut [u8], heap: &[u8], accounts: Accounts) -> Result<usize, ImageRefusal>
     ensures { imaged image.new result ≡ write_image form_2 image.old heap.now accounts }
 {
     let words = words::words_of(accounts);
@@ -44,7 +44,11 @@ pub fn write_image(image: &mut [u8], heap: &[u8], accounts: Accounts) -> WriteAn
 }
 
 // The same in form 1, which not all accounts fit.
-pub fn write_form_1(image: &mut [u8], heap: &[u8], accounts: Accounts) -> WriteAnswer
+pub fn write_form_1(
+    image: &mut [u8],
+    heap: &[u8],
+    accounts: Accounts,
+) -> Result<usize, ImageRefusal>
     ensures { imaged image.new result ≡ write_image form_1 image.old heap.now accounts }
 {
     let words = words::words_of(accounts);

@@ -15,10 +15,7 @@ use Rattle.image_model.specs.Answers.{Imaged, RestoredTo, image_refusal_number, 
 use Rattle.image_model.specs.declared.ImageRefusal.{ImageRefusal}
 use Rattle.image_model.specs.declared.ImageRefusal.TheVariants.{Call, ImageLength, FrameWrong, FormNumber, Contents, Room, Unsound}
 use Rattle.image_model.specs.declared.ImageRefusal.TheVariants.{HeapLengths, NotCarried, FormsDiffer}
-use Rattle.image_model.specs.declared.WriteAnswer.{WriteAnswer}
-use Rattle.image_model.specs.declared.WriteAnswer.TheVariants.{Written, Refused as NotWritten}
-use Rattle.image_model.specs.declared.ReadAnswer.{ReadAnswer}
-use Rattle.image_model.specs.declared.ReadAnswer.TheVariants.{Restored, Refused as NotRestored}
+use Rattle.std.specs.Prelude.{Result, Ok, Err}
 
 -- the images' own refusals in the order of their numbers, from 21 on; and the refusal with a number
 abbrev pub own_refusals : List ImageRefusal
@@ -58,37 +55,38 @@ image_answer_refused a refuse r =
     let e : eqb (image_refusal_number r) 0 ≡ false = ne_eqb (image_refusal_number r) 0 (λ z. omega (arith, z, n.1)) in
     rw (e, n.0)
 
-abbrev pub write_from : Imaged → WriteAnswer
-write_from w = image_answer (Written w.length) NotWritten w.refusal
+abbrev pub write_from : Imaged → Result ℕ ImageRefusal
+write_from w = image_answer (Ok w.length) Err w.refusal
 
-abbrev pub read_from : RestoredTo → ReadAnswer
-read_from r = image_answer Restored NotRestored r.refusal
+abbrev pub read_from : RestoredTo → Result Unit ImageRefusal
+read_from r = image_answer (Ok tt) Err r.refusal
 
-write_back : (o : List ℕ) (a : WriteAnswer) → write_from (imaged o a) ≡ a
+write_back : (o : List ℕ) (a : Result ℕ ImageRefusal) → write_from (imaged o a) ≡ a
 unfolding imaged
-write_back o (Written n) = refl
-write_back o (NotWritten r) = image_answer_refused (Written 0) NotWritten r
+write_back o (Ok n) = refl
+write_back o (Err r) = image_answer_refused (Ok 0) Err r
 
-image_is : (o : List ℕ) (a : WriteAnswer) → (imaged o a).image ≡ o
+image_is : (o : List ℕ) (a : Result ℕ ImageRefusal) → (imaged o a).image ≡ o
 unfolding imaged
-image_is o (Written n) = refl
-image_is o (NotWritten r) = refl
+image_is o (Ok n) = refl
+image_is o (Err r) = refl
 
-read_back : (s : List ℕ) (k : Accounts) (a : ReadAnswer) → read_from (restored_to s k a) ≡ a
+read_back : (s : List ℕ) (k : Accounts) (a : Result Unit ImageRefusal) → read_from (restored_to s k a) ≡ a
 unfolding restored_to
-read_back s k Restored = refl
-read_back s k (NotRestored r) = image_answer_refused Restored NotRestored r
+read_back s k (Ok tt) = refl
+read_back s k (Err r) = image_answer_refused (Ok tt) Err r
 
-state_is : (s : List ℕ) (k : Accounts) (a : ReadAnswer) → ((restored_to s k a).heap ≡ s) × ((restored_to s k a).accounts ≡ k)
+state_is : (s : List ℕ) (k : Accounts) (a : Result Unit ImageRefusal) → ((restored_to s k a).heap ≡ s) × ((restored_to s k a).accounts ≡ k)
 unfolding restored_to
-state_is s k Restored = (refl, refl)
-state_is s k (NotRestored r) = (refl, refl)
+state_is s k (Ok tt) = (refl, refl)
+state_is s k (Err r) = (refl, refl)
 
 -- so neither two answers nor two images, heaps or accounts come to the same
-pub imaged_injective : (o p : List ℕ) (a c : WriteAnswer) → imaged o a ≡ imaged p c → (o ≡ p) × (a ≡ c)
+pub imaged_injective : (o p : List ℕ) (a c : Result ℕ ImageRefusal) → imaged o a ≡ imaged p c → (o ≡ p) × (a ≡ c)
 imaged_injective o p a c e = (sym (image_is o a) ∙ ap (λ (w : Imaged). w.image) e ∙ image_is p c, sym (write_back o a) ∙ ap write_from e ∙ write_back p c)
 
-pub restored_to_injective : (s t : List ℕ) (k l : Accounts) (a c : ReadAnswer) → restored_to s k a ≡ restored_to t l c → (s ≡ t) × (k ≡ l) × (a ≡ c)
+pub restored_to_injective : (s t : List ℕ) (k l : Accounts) (a c : Result Unit ImageRefusal) → restored_to s k a ≡ restored_to t l c
+    → (s ≡ t) × (k ≡ l) × (a ≡ c)
 restored_to_injective s t k l a c e =
     let x = state_is s k a in
     let y = state_is t l c in (

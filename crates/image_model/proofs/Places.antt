@@ -1,9 +1,9 @@
 -- What is true of each form: of its numbers, and of the four places in which forms differ. A later form adds its case here and in the
 -- definitions of `Stream`; every law above this file speaks of any form that has a number.
+use Rattle.std.specs.Prelude.{Some, None}
 use mathlib.Core.Path.{◌≡◌, refl, ap, sym, ◌∙◌}
 use mathlib.Core.List.{List, [], ◌∷◌, ◌++◌, append-nil}
 use mathlib.Core.Bool.{Bool, true, false, cond, not, ◌&&◌, ◌||◌, true≢false}
-use mathlib.Core.Option.{none, some}
 use Prim.Native.Nat.{ℕ, ◌%◌, ◌≤◌, ◌<◌, ◌^◌}
 use native.Mathlib.Omega.{arith}
 use native.Mathlib.Nat.{mod-eq_of_lt}
@@ -31,28 +31,28 @@ use Rattle.image_model.proofs.Parts.{bytes_split_here, one_at}
 
 -- f is a form that has a number
 abbrev pub Known : Form → Type 0
-Known f = form_numbered f.number ≡ some f
+Known f = form_numbered f.number ≡ Some f
 
 -- there are two of them: what holds of both, with their numbers, holds of each form with its own
 module _ (P : ℕ → Form → Type 0) (first : P 1 form_1) (second : P 2 form_2) (n : ℕ) (f : Form) where
-  or_second : (x : Bool) → eqb n 2 ≡ x → cond x (some form_2) none ≡ some f → P n f
+  or_second : (x : Bool) → eqb n 2 ≡ x → cond x (Some form_2) None ≡ Some f → P n f
   or_second true t e = let w : form_2 ≡ f = cc in rw (eqb-true n 2 t, ← w) second
   or_second false t e = let z : ◌≡◌ {A = ℕ} 0 1 = cc in absurd (omega arith)
 
-  either : (x : Bool) → eqb n 1 ≡ x → cond x (some form_1) (cond (eqb n 2) (some form_2) none) ≡ some f → P n f
+  either : (x : Bool) → eqb n 1 ≡ x → cond x (Some form_1) (cond (eqb n 2) (Some form_2) None) ≡ Some f → P n f
   either true t e = let w : form_1 ≡ f = cc in rw (eqb-true n 1 t, ← w) first
   either false t e = or_second (eqb n 2) refl e
 
-  pub by_number : form_numbered n ≡ some f → P n f
+  pub by_number : form_numbered n ≡ Some f → P n f
   unfolding form_numbered
   by_number e = either (eqb n 1) refl e
 
 -- the form with a number has that number
-pub form_has_number : (n : ℕ) (f : Form) → form_numbered n ≡ some f → f.number ≡ n
+pub form_has_number : (n : ℕ) (f : Form) → form_numbered n ≡ Some f → f.number ≡ n
 unfolding form_1 form_2
 form_has_number n f e = by_number (λ m g. g.number ≡ m) refl refl n f e
 
-pub form_is_known : (n : ℕ) (f : Form) → form_numbered n ≡ some f → Known f
+pub form_is_known : (n : ℕ) (f : Form) → form_numbered n ≡ Some f → Known f
 form_is_known n f e = ap form_numbered (form_has_number n f e) ∙ e
 
 -- forms 1 and 2 have theirs
@@ -66,7 +66,7 @@ known_2 = refl
 
 -- two forms with one number are the same
 pub same_number : (f g : Form) → Known f → Known g → f.number ≡ g.number → f ≡ g
-same_number f g e h n = let w : some f ≡ some g = sym e ∙ ap form_numbered n ∙ h in cc
+same_number f g e h n = let w : Some f ≡ Some g = sym e ∙ ap form_numbered n ∙ h in cc
 
 -- a known form's number fits two bytes, it has no more quotas and records than the accounts, all of them where it is full, and its head is short
 pub record Shaped (f : Form) : Type 0 where

@@ -1,9 +1,9 @@
 -- What was read is written: an image that the reader accepts is the very image that the writer makes of the heap and the accounts given back.
 -- That none of the reader's lines holds says what the image's parts are; cutting them again gives the image.
+use Rattle.std.specs.Prelude.{Option, Some, None}
 use mathlib.Core.Path.{◌≡◌, refl, ap, sym, ◌∙◌}
 use mathlib.Core.List.{List, ◌++◌}
 use mathlib.Core.Bool.{true, false, not, ◌||◌, true≢false}
-use mathlib.Core.Option.{Option, none, some}
 use Prim.Native.Nat.{ℕ, ◌+◌, ◌*◌, ◌-◌, ◌/◌, ◌%◌, ◌≤◌}
 use native.Mathlib.Omega.{arith}
 use lib.ListN.{length, take, drop, length-drop}
@@ -34,16 +34,16 @@ use Rattle.image_model.proofs.Again.{typed_read, carried_read, stream_again}
 pub record Right (i h : List ℕ) : Type 0 where
   pub whole : length i ≡ 512 * (length i / 512)
   pub frames : frames_right (length i / 512) 0 (length i / 512) i ≡ true
-  pub form : form_in i ≡ some (form_of i)
+  pub form : form_in i ≡ Some (form_of i)
   pub marks : marks_right (form_of i) (marks_in (stream_of i)) ≡ true
   pub contents : contents_right i ≡ true
   pub room : length h ≡ size_in i
   pub consistent : own_consistent (heap_in i) (accounts_in i) ≡ true
 
-some_form : (x : Option Form) → is_none x ≡ false → x ≡ some (or_else form_1 x)
+some_form : (x : Option Form) → is_none x ≡ false → x ≡ Some (or_else form_1 x)
 unfolding is_none or_else
-some_form none e = absurd (true≢false e)
-some_form (some f) e = refl
+some_form None e = absurd (true≢false e)
+some_form (Some f) e = refl
 
 pub none_right : (i h : List ℕ) → any line_holds (read_lines i h) ≡ false → Right i h
 unfolding any read_lines shape_lines line_21 line_22 line_23 line_24 line_25 line_26 form_of

@@ -1,9 +1,9 @@
 -- What was written is read: no line of the reader holds of an image that the writer made of consistent accounts, and it gives back the heap and
 -- the accounts that were written.
+use Rattle.std.specs.Prelude.{Some}
 use mathlib.Core.Path.{◌≡◌, ap, ◌∙◌}
 use mathlib.Core.List.{List, ◌++◌}
 use mathlib.Core.Bool.{true, false, ◌&&◌}
-use mathlib.Core.Option.{some}
 use Prim.Native.Nat.{ℕ, ◌+◌, ◌*◌, ◌-◌, ◌/◌, ◌%◌, ◌≤◌, ◌<◌, ◌^◌}
 use native.Mathlib.Omega.{arith}
 use lib.ListN.{length, drop, replicate}
@@ -75,7 +75,7 @@ module _ (f : Form) (s : List ℕ) (k : Accounts) (a : Accepts f s k) where
   short = let m = allowed_most (length s) a.extent in omega arith
 
   -- what the image says
-  form_found : form_in i ≡ some f
+  form_found : form_in i ≡ Some f
   unfolding form_in
   form_found = ap form_numbered (number_read f a.known s k a.typed (stream_of i) zeros whole) ∙ a.known
 

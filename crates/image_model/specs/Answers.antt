@@ -1,14 +1,10 @@
 -- What the writer and the reader leave and answer, as values: for each answer type, the paper's number and values of each of its cases.
-use Rattle.std.specs.Prelude.{ℕ, List}
+use Rattle.std.specs.Prelude.{ℕ, List, Result, Ok, Err}
 use Rattle.accounts.specs.declared.Accounts.{Accounts}
 use Rattle.model.specs.Answers.{refusal_number}
 use Rattle.image_model.specs.declared.ImageRefusal.{ImageRefusal}
 use Rattle.image_model.specs.declared.ImageRefusal.TheVariants.{Call, ImageLength, FrameWrong, FormNumber, Contents, Room, Unsound}
 use Rattle.image_model.specs.declared.ImageRefusal.TheVariants.{HeapLengths, NotCarried, FormsDiffer}
-use Rattle.image_model.specs.declared.WriteAnswer.{WriteAnswer}
-use Rattle.image_model.specs.declared.WriteAnswer.TheVariants.{Written, Refused as NotWritten}
-use Rattle.image_model.specs.declared.ReadAnswer.{ReadAnswer}
-use Rattle.image_model.specs.declared.ReadAnswer.TheVariants.{Restored, Refused as NotRestored}
 
 -- the numbers of document 02, and those of the calls for what is theirs
 abbrev pub image_refusal_number : ImageRefusal → ℕ
@@ -36,11 +32,11 @@ pub record RestoredTo : Type 0 where
   pub refusal : ℕ
 
 -- the same of an image and the writer's answer
-unfoldable pub imaged : List ℕ → WriteAnswer → Imaged
-imaged o (Written n) = record { image = o; refusal = 0; length = n }
-imaged o (NotWritten r) = record { image = o; refusal = image_refusal_number r; length = 0 }
+unfoldable pub imaged : List ℕ → Result ℕ ImageRefusal → Imaged
+imaged o (Ok n) = record { image = o; refusal = 0; length = n }
+imaged o (Err r) = record { image = o; refusal = image_refusal_number r; length = 0 }
 
 -- and of a heap, accounts and the reader's answer
-unfoldable pub restored_to : List ℕ → Accounts → ReadAnswer → RestoredTo
-restored_to s k Restored = record { heap = s; accounts = k; refusal = 0 }
-restored_to s k (NotRestored r) = record { heap = s; accounts = k; refusal = image_refusal_number r }
+unfoldable pub restored_to : List ℕ → Accounts → Result Unit ImageRefusal → RestoredTo
+restored_to s k (Ok tt) = record { heap = s; accounts = k; refusal = 0 }
+restored_to s k (Err r) = record { heap = s; accounts = k; refusal = image_refusal_number r }

@@ -1,7 +1,6 @@
 -- Writing, reading and restoring images (rules 13.5 to 13.9, 13.19): the lines of each, and what each leaves and
 -- answers.
-use Rattle.std.specs.Prelude.{ℕ, zero, suc, ◌/◌, ◌%◌, ◌≡◌, List, [], ◌∷◌, ◌++◌, Bool, true, not, ◌||◌, length, ltb, eqb}
-use Rattle.std.proofs.Math.Option.{some}
+use Rattle.std.specs.Prelude.{ℕ, zero, suc, ◌/◌, ◌%◌, ◌≡◌, List, [], ◌∷◌, ◌++◌, Bool, true, not, ◌||◌, length, ltb, eqb, Some}
 use Rattle.rounding.specs.Rounding.{table}
 use Rattle.accounts.specs.declared.Accounts.{Accounts}
 use Rattle.accounts.specs.Accounts.{zero_accounts}
@@ -101,7 +100,7 @@ restore_image i h k =
 
 -- a heap and accounts whose image in form f can be written and read again
 pub record Accepts (f : Form) (s : List ℕ) (k : Accounts) : Type 0 where
-  pub known : form_numbered f.number ≡ some f
+  pub known : form_numbered f.number ≡ Some f
   pub extent : allowed (length s) ≡ true
   pub octets : Octets s
   pub consistent : own_consistent s k ≡ true

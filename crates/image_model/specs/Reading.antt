@@ -1,7 +1,6 @@
 -- What the bytes of an image say (rule 13.2, read backwards), on any bytes. A number that is no form's is read as form 1, so that each of these
 -- is there for every image; line 23 refuses it.
-use Rattle.std.specs.Prelude.{ℕ, ◌+◌, ◌/◌, List, ◌++◌, Bool, ◌&&◌, length, take, drop, get_or, eqb}
-use Rattle.std.proofs.Math.Option.{Option}
+use Rattle.std.specs.Prelude.{ℕ, ◌+◌, ◌/◌, List, ◌++◌, Bool, ◌&&◌, length, take, drop, get_or, eqb, Option}
 use Rattle.accounts.specs.declared.Quota.{Quota}
 use Rattle.accounts.specs.declared.Hold.{Hold}
 use Rattle.accounts.specs.declared.Accounts.{Accounts}

@@ -1,9 +1,9 @@
 -- What an image carries (rules 13.2 to 13.4): a head with the accounts, then the heap, as one stream of bytes; and the stream in frames.
 -- One definition serves every form. What forms differ in beyond their three numbers stands in four places, each marked below: a full form says all
 -- that accounts have, and the other ones have nothing there but two zero bytes, and so every permission and a plain heap of edition 1.
-use Rattle.std.specs.Prelude.{ℕ, ◌+◌, ◌*◌, ◌<◌, ◌^◌, ◌≡◌, List, [], ◌++◌, Bool, true, false, cond, not, ◌&&◌, ◌||◌, length, take, drop, replicate, get_or, eqb}
+use Rattle.std.specs.Prelude.{ℕ, ◌+◌, ◌*◌, ◌<◌, ◌^◌, ◌≡◌, List, [], ◌++◌, Bool, true, false, cond, not, ◌&&◌, ◌||◌}
+use Rattle.std.specs.Prelude.{length, take, drop, replicate, get_or, eqb, Option, Some, None}
 use Rattle.std.specs.Prelude.{ltb}
-use Rattle.std.proofs.Math.Option.{Option, none, some}
 use Rattle.accounts.specs.declared.Quota.{Quota}
 use Rattle.accounts.specs.declared.Hold.{Hold}
 use Rattle.accounts.specs.declared.Accounts.{Accounts}
@@ -23,7 +23,7 @@ unfoldable pub form_2 : Form
 form_2 = record { number = 2; quotas = 32; records = 512; full = true }
 
 unfoldable pub form_numbered : ℕ → Option Form
-form_numbered n = cond (eqb n 1) (some form_1) (cond (eqb n 2) (some form_2) none)
+form_numbered n = cond (eqb n 1) (Some form_1) (cond (eqb n 2) (Some form_2) None)
 
 -- First place: what an entry has behind grant and remainder, in a full form a byte of permissions and three zero bytes. Its bytes, how many they are,
 -- the quota with what they say, and whether they are right

@@ -32,25 +32,11 @@ pub enum ImageRefusal {
     FormsDiffer,
 }
 
-// The answer of the writer: how many bytes it wrote.
-#[derive(Clone, Copy)]
-pub enum WriteAnswer {
-    Written(usize),
-    Refused(ImageRefusal),
-}
-
-// The answer of the reader.
-#[derive(Clone, Copy)]
-pub enum ReadAnswer {
-    Restored,
-    Refused(ImageRefusal),
-}
-
 // What the reader hands back beside the heap.
 #[derive(Clone, Copy)]
 pub struct ReadResult {
     pub accounts: Accounts,
-    pub answer: ReadAnswer,
+    pub answer: Result<(), ImageRefusal>,
 }
 
 impl ImageRefusal {

@@ -3,13 +3,13 @@
 -- replaces one record and leaves the others: a sum over records loses what the old one added and gains what the new one adds. Applied to a sum of
 -- ones that says that records still differ, and applied to the sum of the counts it says what each count becomes.
 -- Dropping replaces each record by itself, so it takes the same part of every sum.
+use Rattle.std.specs.Prelude.{Option, Some, None}
 use mathlib.Core.Path.{◌≡◌, refl, ap, sym, ◌∙◌}
 use Prim.Native.Nat.{ℕ, ◌+◌, ◌-◌, ◌≤◌, ◌<◌}
 use native.Mathlib.Omega.{arith}
 use mathlib.Core.List.Memᴰ
 use mathlib.Core.List.{List, [], ◌∷◌, Memᴰ}
 use mathlib.Core.Bool.{Bool, true, false, cond, ◌&&◌, true≢false, and-false}
-use mathlib.Core.Option.{Option, none, some}
 use mathlib.Core.Logic.{◌⊎◌, inl, inr, ◌↔◌}
 use lib.Dec.{ltb, eqb}
 use borrow.Author.Tests.{leb-true, le-leb, ltb-true, lt-ltb, eqb-true, eq-eqb, eqb-false, ne_eqb, not-true}
@@ -59,12 +59,12 @@ unfolding has_record or_else
 found_record hs serial q e =
     let x = first_found (is_for serial q) hs e in
     let m = first_some (is_for serial q) hs x.0 x.1 in
-    (x.0, m.0, m.1, count_found serial q hs (some x.0) x.1)
+    (x.0, m.0, m.1, count_found serial q hs (Some x.0) x.1)
 
 -- where a quota has no record its count is 0
 pub unrecorded : (hs : List Hold) (serial q : ℕ) → has_record hs q serial ≡ false → count_of serial q hs ≡ 0
 unfolding has_record or_else
-unrecorded hs serial q e = count_found serial q hs none ((first_none (is_for serial q) hs).1 e)
+unrecorded hs serial q e = count_found serial q hs None ((first_none (is_for serial q) hs).1 e)
 
 -- a used record's count is the count of its serial and quota
 pub count_member : (hs : List Hold) → Ordered hs → (h : Hold) → Memᴰ h hs → used h ≡ true → count_of h.serial h.quota hs ≡ h.count

@@ -1,11 +1,11 @@
 -- A good state is written as a consistent heap, and a consistent heap is read as a good state.
 -- The blocks of a good state can be written, so they are read again as they were written, and the tests of the heap are those of the blocks.
 -- Of a consistent heap, the blocks that were read can be written, and writing them gives the heap again.
+use Rattle.std.specs.Prelude.{Some}
 use Prim.Native.Nat.{ℕ, ◌<◌, ◌^◌}
 use mathlib.Core.Path.{◌≡◌, refl, ap, sym, ◌∙◌}
 use mathlib.Core.List.{List}
 use mathlib.Core.Bool.{true, ◌&&◌}
-use mathlib.Core.Option.{some}
 use lib.ListN.{length, get_or}
 use lib.Dec.{leb, ltb}
 use borrow.Author.Tests.{le-leb, lt-ltb}
@@ -32,7 +32,7 @@ render_total bs = length_render 0 bs ∙ total_is bs
 
 -- the heap of a good state
 pub record WrittenOut (t : State) : Type 0 where
-  pub parsed : parse (render t.blocks) ≡ some t.blocks
+  pub parsed : parse (render t.blocks) ≡ Some t.blocks
   pub blocks : blocks_of (render t.blocks) ≡ t.blocks
   pub objects : objects_of (render t.blocks) ≡ objects t.blocks
   pub extent : length (render t.blocks) ≡ total size t.blocks

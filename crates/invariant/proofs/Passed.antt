@@ -1,10 +1,10 @@
 -- What an accepted call's lines have shown: each line of its list does not hold.
+use Rattle.std.specs.Prelude.{Option, Some, None}
 use Prim.Native.Nat.{ℕ, ◌+◌, ◌≤◌, ◌<◌}
 use native.Mathlib.Omega.{arith}
 use mathlib.Core.Path.{◌≡◌, refl}
 use mathlib.Core.List.{List, [], ◌∷◌}
 use mathlib.Core.Bool.{Bool, true, false, not, true≢false, false≢true}
-use mathlib.Core.Option.{Option, none, some}
 use lib.Dec.{ltb, eqb}
 use borrow.Author.Tests.{leb-false, ltb-false, eqb-false}
 use Rattle.accounts.specs.declared.Accounts.{Accounts}
@@ -36,12 +36,12 @@ length_asked n e =
     let z : n ≡ 0 → ⊥ = eqb-false n 0 p.0 in
     (omega (arith, z), ltb-false 32760 n p.1)
 
-some_of : {A : Type 0} (o : Option A) → is_none o ≡ false → (x : A) × (o ≡ some x)
+some_of : {A : Type 0} (o : Option A) → is_none o ≡ false → (x : A) × (o ≡ Some x)
 unfolding is_none
-some_of none e = absurd (true≢false e)
-some_of (some x) e = (x, refl)
+some_of None e = absurd (true≢false e)
+some_of (Some x) e = (x, refl)
 
-object_found : (o : Option Handle) → line_holds (line_5 o) ≡ false → (x : Handle) × (o ≡ some x)
+object_found : (o : Option Handle) → line_holds (line_5 o) ≡ false → (x : Handle) × (o ≡ Some x)
 unfolding line_5
 object_found o e = some_of o e
 
@@ -65,7 +65,7 @@ serial_left : (k : Accounts) → line_holds (line_10 k) ≡ false → k.last_ser
 unfolding line_10
 serial_left k e l = let z : k.last_serial ≡ 4294967294 → ⊥ = eqb-false k.last_serial 4294967294 e in omega (arith, z)
 
-base_found : (unit : ℕ → ℕ) (s : List ℕ) (n : ℕ) → line_holds (line_11 unit s n) ≡ false → (b : ℕ) × (base_for unit s n ≡ some b)
+base_found : (unit : ℕ → ℕ) (s : List ℕ) (n : ℕ) → line_holds (line_11 unit s n) ≡ false → (b : ℕ) × (base_for unit s n ≡ Some b)
 unfolding line_11
 base_found unit s n e = some_of (base_for unit s n) e
 
@@ -84,7 +84,7 @@ free_all_passed unit s k q e = quota_exists q (passed (line_3 q) _ (passed (line
 pub record Releasable (s : List ℕ) (k : Accounts) (q : ℕ) (h : Handle) : Type 0 where
   pub exists : q < QUOTAS
   pub object : Handle
-  pub names : lookup h s ≡ some object
+  pub names : lookup h s ≡ Some object
   pub recorded : has_record k.holds q (found (lookup h s)).serial ≡ true
 
 pub release_passed : (unit : ℕ → ℕ) (s : List ℕ) (k : Accounts) (q : ℕ) (h : Handle) → any line_holds (release_lines unit s k q h) ≡ false → Releasable s k q h
@@ -100,7 +100,7 @@ release_passed unit s k q h e =
 pub record Claimable (s : List ℕ) (k : Accounts) (q : ℕ) (h : Handle) : Type 0 where
   pub exists : q < QUOTAS
   pub object : Handle
-  pub names : lookup h s ≡ some object
+  pub names : lookup h s ≡ Some object
   pub pays : claims_first k q (found (lookup h s)) ≡ true → charge_of (found (lookup h s)).length ≤ remaining q k
   pub unused : claims_first k q (found (lookup h s)) ≡ true → all used k.holds ≡ false
 
@@ -133,7 +133,7 @@ module _ (unit : ℕ → ℕ) (s : List ℕ) (k : Accounts) where
     pub unused : all used k.holds ≡ false
     pub left : k.last_serial < QUARANTINED → k.last_serial + 1 < QUARANTINED
     pub base : ℕ
-    pub based : base_for unit s n ≡ some base
+    pub based : base_for unit s n ≡ Some base
 
   -- the last four lines of each
   rest_passed : (q n : ℕ) → q < QUOTAS → line_holds (line_4 n) ≡ false
@@ -166,7 +166,7 @@ module _ (unit : ℕ → ℕ) (s : List ℕ) (k : Accounts) where
   pub record Reallocatable (q : ℕ) (h : Handle) (n : ℕ) : Type 0 where
     pub new : Allocatable q n
     pub object : Handle
-    pub names : lookup_whole h s ≡ some object
+    pub names : lookup_whole h s ≡ Some object
     pub recorded : has_record k.holds q (found (lookup_whole h s)).serial ≡ true
 
   pub reallocate_passed : (q : ℕ) (h : Handle) (n : ℕ) → any line_holds (reallocate_lines unit s k q h n) ≡ false → Reallocatable q h n

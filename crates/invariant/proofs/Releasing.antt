@@ -1,10 +1,10 @@
 -- A release is accepted exactly where it is possible, and then leaves what its definition says.
 -- Each of its lines says one thing of the state: the heap's length, consistency, the quota's number, the object that the handle names, its record.
+use Rattle.std.specs.Prelude.{Some}
 use mathlib.Core.Path.{◌≡◌, ap, ◌∙◌}
 use Prim.Native.Nat.{ℕ, ◌<◌, ◌^◌}
 use mathlib.Core.List.{List, Memᴰ}
 use mathlib.Core.Bool.{true, false, not}
-use mathlib.Core.Option.{some}
 use lib.ListN.{length, get_or}
 use borrow.Author.Tests.{not-false, lt-leb}
 use Rattle.accounts.specs.declared.Accounts.{Accounts}
@@ -35,7 +35,7 @@ use Rattle.invariant.proofs.Passed.{release_passed}
 -- a release is possible: its quota exists, its handle names an object, and the quota has a record for that
 pub record Possible (q : ℕ) (h o : Handle) (t : State) : Type 0 where
   pub exists : q < QUOTAS
-  pub names : first (names h) (objects t.blocks) ≡ some o
+  pub names : first (names h) (objects t.blocks) ≡ Some o
   pub recorded : has_record t.accounts.holds q o.serial ≡ true
 
 -- what `consistent` asks for beyond `accounted`: every object of a state fits its unit, every quota's permissions are such, and blocks and numbers
@@ -89,7 +89,7 @@ module _ (q : ℕ) (h o : Handle) (t : State) (g : Good t) (p : Possible q h o t
           kinded = released_kinds q o t f.kinded;
         }
 
-    found_here : lookup h (render t.blocks) ≡ some o
+    found_here : lookup h (render t.blocks) ≡ Some o
     unfolding lookup
     found_here = rw (good_heap t g).objects p.names
 

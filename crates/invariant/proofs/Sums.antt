@@ -2,13 +2,13 @@
 -- A change of the first record that passes a test leaves those before and after it, so a sum loses what that record added and gains what the new
 -- one adds. Records differ exactly if each serial and quota has at most one used record, which is a sum of ones; and then the count of a serial
 -- and quota is the sum of the counts.
+use Rattle.std.specs.Prelude.{Some}
 use mathlib.Core.Path.{◌≡◌, refl, ap, sym, subst, ◌∙◌}
 use Prim.Native.Nat.{ℕ, ◌+◌, ◌≤◌}
 use native.Mathlib.Omega.{arith}
 use mathlib.Core.List.Memᴰ
 use mathlib.Core.List.{List, [], ◌∷◌, ◌++◌, Memᴰ}
 use mathlib.Core.Bool.{Bool, true, false, not, cond, ◌&&◌, false≢true}
-use mathlib.Core.Option.{some}
 use lib.Dec.{eqb}
 use borrow.Author.Tests.{not-true}
 use Rattle.accounts.specs.declared.Hold.{Hold}
@@ -156,8 +156,8 @@ unfolding count_of records_differ total first or_else
 count_sum [] d t j = refl
 count_sum (h ∷ hs) d t j = go (is_for t j h) refl (count_sum hs (and_right (not (used h && any (is_for h.serial h.quota) hs)) _ d) t j)
   where
-    found : (x : Bool) → is_for t j h ≡ x → count_of t j (h ∷ hs) ≡ (or_else zero_hold (cond x (some h) (first (is_for t j) hs))).count
-    found x e = ap (λ (y : Bool). (or_else zero_hold (cond y (some h) (first (is_for t j) hs))).count) e
+    found : (x : Bool) → is_for t j h ≡ x → count_of t j (h ∷ hs) ≡ (or_else zero_hold (cond x (Some h) (first (is_for t j) hs))).count
+    found x e = ap (λ (y : Bool). (or_else zero_hold (cond y (Some h) (first (is_for t j) hs))).count) e
 
     go : (x : Bool) → is_for t j h ≡ x → count_of t j hs ≡ sum_of (λ h. h.count) t j hs → count_of t j (h ∷ hs) ≡ sum_of (λ h. h.count) t j (h ∷ hs)
     go true x ih = found true x ∙ rw (x, sum_none (λ h. h.count) t j hs (none_later t j h hs d x)) (omega arith)

@@ -1,9 +1,9 @@
 -- Along a history there are as many records as at its beginning, and every count fits a byte: a new record counts 1,
 -- a release lowers a count, and a claim is refused where the count is 255 (rule 7.2, line 7).
+use Rattle.std.specs.Prelude.{Some}
 use mathlib.Core.Path.{◌≡◌, refl, ap, sym, ◌∙◌, subst}
 use mathlib.Core.List.{List, [], ◌∷◌, map}
 use mathlib.Core.Bool.{Bool, true, false, cond, not}
-use mathlib.Core.Option.{some}
 use Prim.Native.Nat.{ℕ, zero, suc, ◌+◌, ◌*◌, ◌-◌, ◌<◌, ◌^◌}
 use native.Mathlib.Omega.{arith}
 use lib.ListN.{length, get_or, replicate}
@@ -66,14 +66,14 @@ module _ {A : Type 0} (p : A → Bool) (d : A) where
 
 -- the first element that passes a test is changed to one that passes another
 module _ {A : Type 0} (t p : A → Bool) (f : A → A) where
-  changed_all : (xs : List A) → all t xs ≡ true → ((x : A) → first p xs ≡ some x → t (f x) ≡ true)
+  changed_all : (xs : List A) → all t xs ≡ true → ((x : A) → first p xs ≡ Some x → t (f x) ≡ true)
       → all t (change_first p f xs) ≡ true
   unfolding all first change_first
   changed_all [] e g = refl
   changed_all (x ∷ xs) e g = go (p x) refl (changed_all xs (and_right (t x) (all t xs) e))
     where
       go : (b : Bool) → p x ≡ b
-          → (((y : A) → first p xs ≡ some y → t (f y) ≡ true) → all t (change_first p f xs) ≡ true)
+          → (((y : A) → first p xs ≡ Some y → t (f y) ≡ true) → all t (change_first p f xs) ≡ true)
           → all t (cond b (f x ∷ xs) (x ∷ change_first p f xs)) ≡ true
       go true q ih = and_both (t (f x)) (all t xs) (g x (rw q)) (and_right (t x) (all t xs) e)
       go false q ih =
@@ -91,7 +91,7 @@ raised : (serial q : ℕ) (hs : List Hold) → Counted hs → eqb (count_of seri
 unfolding raise_count count_of or_else
 raised serial q hs e n = changed_all byte_count (is_for serial q) (λ h. with_count (h.count + 1) h) hs e up
   where
-    up : (x : Hold) → first (is_for serial q) hs ≡ some x → byte_count (with_count (x.count + 1) x) ≡ true
+    up : (x : Hold) → first (is_for serial q) hs ≡ Some x → byte_count (with_count (x.count + 1) x) ≡ true
     up x r =
         let l = ltb-true x.count 256 (all_member byte_count hs e x (first_some (is_for serial q) hs x r).0) in
         let d = eqb-false x.count 255 (rw (r, count_of) at n) in
@@ -110,7 +110,7 @@ lowered serial q hs e = changed_all byte_count (is_for serial q) less_one hs e d
     go x l true = refl
     go x l false = lt-ltb (x.count - 1) 256 (omega arith)
 
-    down : (x : Hold) → first (is_for serial q) hs ≡ some x → byte_count (less_one x) ≡ true
+    down : (x : Hold) → first (is_for serial q) hs ≡ Some x → byte_count (less_one x) ≡ true
     down x r =
         let m = (first_some (is_for serial q) hs x r).0 in
         go x (ltb-true x.count 256 (all_member byte_count hs e x m)) (eqb x.count 1)

@@ -1,11 +1,11 @@
 -- A write through the part that lend gives is the write of a history, whatever the handle is, narrowed or not. The part is the handle's range, which lies in
 -- the object that it names, or empty where lend is refused. So a byte outside every live object is outside the part.
+use Rattle.std.specs.Prelude.{Option, Some, None}
 use Prim.Native.Nat.{ℕ, ◌+◌, ◌≤◌, ◌<◌}
 use native.Mathlib.Omega.{arith}
 use mathlib.Core.Path.{◌≡◌, refl}
 use mathlib.Core.List.{List, ◌∷◌}
 use mathlib.Core.Bool.{false, true≢false}
-use mathlib.Core.Option.{Option, none, some}
 use lib.ListN.{length, get_or}
 use Rattle.accounts.specs.declared.Accounts.{Accounts}
 use Rattle.layout.specs.Bytes.{Octets}
@@ -29,16 +29,16 @@ InRange i r = (r.start ≤ i) × (i < r.end)
 
 module _ (unit : ℕ → ℕ) (s : List ℕ) (k : Accounts) (h : Handle) where
   -- the handle of an accepted lend names an object
-  lent_named : first_refusal (lend_lines unit s k h) ≡ 0 → (o : Handle) × (lookup h s ≡ some o)
+  lent_named : first_refusal (lend_lines unit s k h) ≡ 0 → (o : Handle) × (lookup h s ≡ Some o)
   unfolding row_lines line_5 is_none any
   lent_named e = go (lookup h s) refl
     where
       none_holds : any line_holds (lend_lines unit s k h) ≡ false
       none_holds = (accepted_exactly (lend_lines unit s k h) (by_lines unit (Lend h) s k).numbered).0 e
 
-      go : (o : Option Handle) → lookup h s ≡ o → (o : Handle) × (lookup h s ≡ some o)
-      go none q = absurd (true≢false (rw q at (or_neither (line_holds (line_2 unit s k)) _ (or_neither (line_holds (line_1 s)) _ none_holds).1).1))
-      go (some o) q = (o, q)
+      go : (o : Option Handle) → lookup h s ≡ o → (o : Handle) × (lookup h s ≡ Some o)
+      go None q = absurd (true≢false (rw q at (or_neither (line_holds (line_2 unit s k)) _ (or_neither (line_holds (line_1 s)) _ none_holds).1).1))
+      go (Some o) q = (o, q)
 
   -- and each byte of its range is a byte of that object, whether it has the whole of it or not
   pub range_inside : first_refusal (lend_lines unit s k h) ≡ 0 → (i : ℕ) → in_object i (objects_of s) ≡ false → h.base ≤ i → i < h.base + h.length → ⊥

@@ -1,17 +1,18 @@
 -- Rule 10.9: a request for which no other line holds is refused by 11 exactly if there is no base for it, and accepted otherwise.
 -- Its last line says that the search found no base; the search finds one exactly if some multiple of the alignment is suitable; and what is suitable is said
 -- over bytes by model's laws.
+use Rattle.std.specs.Prelude.{Option, Some, None}
 use Prim.Native.Nat.{ℕ, ◌+◌, ◌-◌, ◌*◌, ◌%◌}
 use native.Mathlib.Nat.{add_assoc}
 use native.Mathlib.Omega.{arith}
 use mathlib.Core.Path.{◌≡◌, refl, sym, ◌∙◌, ap}
 use mathlib.Core.List.{List, [], ◌∷◌, ◌++◌, map}
 use mathlib.Core.Bool.{Bool, true, false, cond, ◌&&◌, ◌||◌, true≢false, not}
-use mathlib.Core.Option.{Option, none, some, none-ne-some, some-injective}
 use mathlib.Core.Logic.{◌↔◌}
 use lib.ListN.{length}
 use lib.Dec.{leb, ltb}
 use borrow.Author.Tests.{not-true}
+use Rattle.std.proofs.lemmas.Option.{none-some, same_Some}
 use Rattle.accounts.specs.declared.Accounts.{Accounts}
 use Rattle.accounts.specs.Accounts.{ALLOCATE}
 use Rattle.rounding.specs.Rounding.{Units, object_length, alignment}
@@ -93,14 +94,14 @@ module _ (unit : ℕ → ℕ) (s : List ℕ) (n b : ℕ) where
 
 -- line 11 holds exactly if there is no suitable run
 module _ (unit : ℕ → ℕ) (units : Units unit) (s : List ℕ) (n : ℕ) where
-  none_fits : base_for unit s n ≡ none → (b : ℕ) → SuitableRun unit s n b → ⊥
+  none_fits : base_for unit s n ≡ None → (b : ℕ) → SuitableRun unit s n b → ⊥
   unfolding base_for
   none_fits e b r =
       true≢false
       (sym (run_suitable unit s n b r)
       ∙ lowest_none (length s) (blocks_of s) (alignment unit n) (object_length unit n) (alignment_positive unit units n) e b r.multiple)
 
-  some_fits : (b : ℕ) → base_for unit s n ≡ some b → SuitableRun unit s n b
+  some_fits : (b : ℕ) → base_for unit s n ≡ Some b → SuitableRun unit s n b
   unfolding base_for
   some_fits b e =
       let w = lowest_some (length s) (blocks_of s) (alignment unit n) (object_length unit n) (alignment_positive unit units n) b e in
@@ -122,8 +123,8 @@ last_decides ((n when false) ∷ ls) t e = last_decides ls t e
 module _ (unit : ℕ → ℕ) (units : Units unit) (s : List ℕ) (n : ℕ) where
   decides : (o : Option ℕ) → base_for unit s n ≡ o → Decided unit s n (cond (is_none o) 11 0)
   unfolding is_none
-  decides none e = record { no_space = (λ z. none_fits unit units s n e, λ z. refl); space = λ b r. absurd (none_fits unit units s n e b r) }
-  decides (some b) e = record { no_space = (λ z. absurd (omega arith), λ f. absurd (f b (some_fits unit units s n b e))); space = λ b r. refl }
+  decides None e = record { no_space = (λ z. none_fits unit units s n e, λ z. refl); space = λ b r. absurd (none_fits unit units s n e b r) }
+  decides (Some b) e = record { no_space = (λ z. absurd (omega arith), λ f. absurd (f b (some_fits unit units s n b e))); space = λ b r. refl }
 
   line_decides : (front : List Line) → any line_holds front ≡ false → Decided unit s n (first_refusal (front ++ (line_11 unit s n ∷ [])))
   unfolding line_11
@@ -148,25 +149,25 @@ module _ (unit : ℕ → ℕ) (units : Units unit) (s : List ℕ) (k : Accounts)
       (not-true _ e)
 
   -- the lines of a call give its refusal
-  of_request : (c : Call) (r₀ r : Request) → some r₀ ≡ some r → passes_others r.lines ≡ true
+  of_request : (c : Call) (r₀ r : Request) → Some r₀ ≡ Some r → passes_others r.lines ≡ true
       → (passes_others r₀.lines ≡ true → Decided unit s r₀.asked (first_refusal (call_lines unit c s k)))
       → Decided unit s r.asked (step unit c s k).values.refusal
   of_request c r₀ r e p f =
-      let x : r₀ ≡ r = some-injective r₀ r e in
+      let x : r₀ ≡ r = same_Some r₀ r e in
       rw (refusal_of_lines (by_lines unit c s k), ← x) (f (rw x p))
 
-  pub space_decided : (c : Call) (r : Request) → request_of unit c s k ≡ some r → passes_others r.lines ≡ true
+  pub space_decided : (c : Call) (r : Request) → request_of unit c s k ≡ Some r → passes_others r.lines ≡ true
       → Decided unit s r.asked (step unit c s k).values.refusal
   unfolding request_of
   space_decided (Allocate q n) r e p = of_request (Allocate q n) _ r e p (allocate_decided q n)
   space_decided (AllocateArray q count size) r e p = of_request (AllocateArray q count size) _ r e p (allocate_decided q (count * size))
-  space_decided (Claim q h) r e p = absurd (none-ne-some r e)
-  space_decided (Release q h) r e p = absurd (none-ne-some r e)
-  space_decided (FreeAll q) r e p = absurd (none-ne-some r e)
-  space_decided Sweep r e p = absurd (none-ne-some r e)
+  space_decided (Claim q h) r e p = absurd (none-some r e)
+  space_decided (Release q h) r e p = absurd (none-some r e)
+  space_decided (FreeAll q) r e p = absurd (none-some r e)
+  space_decided Sweep r e p = absurd (none-some r e)
   space_decided (Reallocate q h n) r e p = of_request (Reallocate q h n) _ r e p (reallocate_decided q h n)
-  space_decided (Lend h) r e p = absurd (none-ne-some r e)
-  space_decided (Remaining q) r e p = absurd (none-ne-some r e)
-  space_decided (CanRelease q h) r e p = absurd (none-ne-some r e)
-  space_decided (ListBlock at) r e p = absurd (none-ne-some r e)
-  space_decided (ClearPermissions q n) r e p = absurd (none-ne-some r e)
+  space_decided (Lend h) r e p = absurd (none-some r e)
+  space_decided (Remaining q) r e p = absurd (none-some r e)
+  space_decided (CanRelease q h) r e p = absurd (none-some r e)
+  space_decided (ListBlock at) r e p = absurd (none-some r e)
+  space_decided (ClearPermissions q n) r e p = absurd (none-some r e)

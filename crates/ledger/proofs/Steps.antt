@@ -1,12 +1,12 @@
 -- Each call keeps agreement: heap and accounts after it agree with the ledger that has recorded it.
 -- A refused call changes nothing and is not recorded. An accepted one has passed its lines, which give what its change needs; the change keeps a good
 -- state, and the ledger's change matches that of objects and records.
+use Rattle.std.specs.Prelude.{Some}
 use Prim.Native.Nat.{ℕ, zero, suc, ◌*◌, ◌<◌}
 use native.Mathlib.Omega.{arith}
 use mathlib.Core.Path.{◌≡◌, refl, ap, sym, ◌∙◌, subst, subst₂}
 use mathlib.Core.List.{List, Memᴰ}
 use mathlib.Core.Bool.{true}
-use mathlib.Core.Option.{some}
 use borrow.Author.Tests.{eq-eqb, ne_eqb}
 use Rattle.accounts.specs.declared.Accounts.{Accounts}
 use Rattle.accounts.specs.Accounts.{QUOTAS, clear_permissions}
@@ -97,11 +97,11 @@ module _ (unit : ℕ → ℕ) (units : Units unit) (l : Ledger) (s : List ℕ) (
 
 -- the object that a handle names is there, and has its serial
 module _ (l : Ledger) (s : List ℕ) (k : Accounts) (a : Agrees l s k) (q : ℕ) (h : Handle) where
-  pub there : (o : Handle) → lookup h s ≡ some o → Memᴰ (found (lookup h s)) (objects (blocks_of s))
+  pub there : (o : Handle) → lookup h s ≡ Some o → Memᴰ (found (lookup h s)) (objects (blocks_of s))
   unfolding found or_else objects_of
   there o e = rw e (lookup_named h s o e).1
 
-  pub same_serial_as : (o : Handle) → lookup h s ≡ some o → (found (lookup h s)).serial ≡ h.serial
+  pub same_serial_as : (o : Handle) → lookup h s ≡ Some o → (found (lookup h s)).serial ≡ h.serial
   unfolding found or_else
   same_serial_as o e = rw e (found_serial h s o e)
 
@@ -140,11 +140,11 @@ track_moved l t a q old new r fresh there held =
     x.0 x.1 r.exists
 
 module _ (unit : ℕ → ℕ) (units : Units unit) (l : Ledger) (s : List ℕ) (k : Accounts) (a : Agrees l s k) (q : ℕ) (h : Handle) (n : ℕ) where
-  pub old_there : (o : Handle) → lookup_whole h s ≡ some o → Memᴰ (found (lookup_whole h s)) (objects (blocks_of s))
+  pub old_there : (o : Handle) → lookup_whole h s ≡ Some o → Memᴰ (found (lookup_whole h s)) (objects (blocks_of s))
   unfolding found or_else objects_of
   old_there o e = let p = (lookup_whole_exactly h s o).0 e in rw (e, ← p.0) p.1
 
-  old_serial : (o : Handle) → lookup_whole h s ≡ some o → (found (lookup_whole h s)).serial ≡ h.serial
+  old_serial : (o : Handle) → lookup_whole h s ≡ Some o → (found (lookup_whole h s)).serial ≡ h.serial
   unfolding found or_else
   old_serial o e = rw e (ap (λ (x : Handle). x.serial) (sym ((lookup_whole_exactly h s o).0 e).0))
 

@@ -1,6 +1,7 @@
 -- A write inside live objects keeps agreement. No byte of a header lies in an object, so every header stands as it did; what is read then are
 -- the same blocks with other bodies of the same lengths. Objects, sizes and free neighbours are the same, and the test for consistency reads no
 -- more of the blocks than these.
+use Rattle.std.specs.Prelude.{Some}
 use Prim.Native.Nat.{ℕ, ◌+◌}
 use native.Mathlib.Nat.{zero-add}
 use native.Mathlib.Omega.{arith}
@@ -8,7 +9,6 @@ use mathlib.Core.Path.{◌≡◌, refl, ap, sym, ◌∙◌}
 use mathlib.Core.List.Memᴰ
 use mathlib.Core.List.{List, [], ◌∷◌, ◌++◌, Memᴰ}
 use mathlib.Core.Bool.{true, false, ◌&&◌, Bool}
-use mathlib.Core.Option.{some}
 use mathlib.Core.Logic.{◌↔◌, ◌⊎◌, inl, inr, ⊎_elim}
 use lib.ListN.{length, take, drop, get_or, length-take, length-drop, take-append-drop, get_or-append}
 use lib.Seq.{get_or-take, get_or-drop, drop-drop, ext_get_or, get_or-append-add}
@@ -173,7 +173,7 @@ module _ (s s' : List ℕ) (k : Accounts) (o : Octets s) (c : accounted s k ≡ 
       (record { extent = w.same_length ∙ ap length (sym same); outside = λ i j e f. rw same (w.inside i (rw (e, zero-add) at f)) })
 
   -- are read from the written bytes
-  written_parsed : parse s' ≡ some written_blocks.blocks
+  written_parsed : parse s' ≡ Some written_blocks.blocks
   unfolding render
   written_parsed = (parse_is s' written_blocks.blocks w.octets).1 (written_blocks.again, written_blocks.writable)
 

@@ -1,7 +1,6 @@
 -- Demand 3 (rules 10.3 to 10.11, 22.11 and 22.13), as one statement about every list of calls: of every history of a run, and of every split of its events.
-use Rattle.std.specs.Prelude.{ℕ, ◌+◌, ◌%◌, ◌≤◌, ◌<◌, ◌≡◌, Bool, true, false, not, cond, ◌&&◌, ◌||◌, ◌↔◌, length, get_or, eqb}
+use Rattle.std.specs.Prelude.{ℕ, ◌+◌, ◌%◌, ◌≤◌, ◌<◌, ◌≡◌, Bool, true, false, not, cond, ◌&&◌, ◌||◌, ◌↔◌, length, get_or, eqb, Option, Some, None}
 use mathlib.Core.List.{List, [], ◌∷◌, ◌++◌, map, Memᴰ}
-use Rattle.std.proofs.Math.Option.{Option, none, some}
 use Rattle.accounts.specs.declared.Quota.{Quota}
 use Rattle.accounts.specs.declared.Hold.{Hold}
 use Rattle.accounts.specs.declared.Accounts.{Accounts}
@@ -59,7 +58,7 @@ pub record Request : Type 0 where
 unfoldable pub request_of : (ℕ → ℕ) → Call → List ℕ → Accounts → Option Request
 request_of unit c s k =
     let r : Request = record { asked = (arguments_of c).length; lines = call_lines unit c s k } in
-    cond (has NoSpace (row_of c)) (some r) none
+    cond (has NoSpace (row_of c)) (Some r) None
 
 -- no line other than 11 holds
 unfoldable pub passes_others : List Line → Bool
@@ -98,9 +97,9 @@ pub record AsRecorded (unit : ℕ → ℕ) (run : Run) (l : Ledger) (s : List �
   pub balanced : (q : ℕ) → q < QUOTAS → remaining q k + total (cost_to q) l.entries ≡ get_or l.grants q 0
   pub answered : (q : ℕ) → q < QUOTAS → (run (Remaining q) s k).values ≡ amount_of (remaining q k)
   -- rule 10.9: for a call for a new object that only line 11 can refuse, 11 says that there is no base; with a base it is accepted
-  pub no_space : (c : Call) (r : Request) → request_of unit c s k ≡ some r → passes_others r.lines ≡ true
+  pub no_space : (c : Call) (r : Request) → request_of unit c s k ≡ Some r → passes_others r.lines ≡ true
       → ((run c s k).values.refusal ≡ 11) ↔ ((b : ℕ) → SuitableRun unit s r.asked b → ⊥)
-  pub space : (c : Call) (r : Request) → request_of unit c s k ≡ some r → passes_others r.lines ≡ true
+  pub space : (c : Call) (r : Request) → request_of unit c s k ≡ Some r → passes_others r.lines ≡ true
       → (b : ℕ) → SuitableRun unit s r.asked b → (run c s k).values.refusal ≡ 0
   -- rule 10.10: no call is refused by 1 or 2
   pub length_allowed : allowed (length s) ≡ true

@@ -1,5 +1,6 @@
 -- Laws of the tests, sums and searches over lists: what a test of all, of some or of each two elements says of members and places, and what
 -- a search finds. Each is by induction on the list.
+use Rattle.std.specs.Prelude.{Some, None}
 use mathlib.Core.Path.{◌≡◌, refl, ap, sym, ◌∙◌}
 use Prim.Native.Nat.{ℕ, zero, suc, ◌+◌, ◌<◌, suc-le-suc, zero-le}
 use native.Mathlib.Nat.{not-suc-le-zero, le_of_suc-le-suc}
@@ -7,10 +8,10 @@ use native.Mathlib.Omega.{arith}
 use mathlib.Core.List.Memᴰ
 use mathlib.Core.List.{List, [], ◌∷◌, ◌++◌, Memᴰ}
 use mathlib.Core.Bool.{Bool, true, false, not, ◌&&◌, false≢true, true≢false, and_assoc}
-use mathlib.Core.Option.{none, some, none-ne-some, some-ne-none, some-injective}
 use mathlib.Core.Logic.{◌⊎◌, inl, inr, ◌↔◌}
 use lib.ListN.{length, get_or}
 use borrow.Author.Tests.{not-true}
+use Rattle.std.proofs.lemmas.Option.{none-some, same_Some}
 use Rattle.lists.specs.Lists.{all, any, total, first}
 use Rattle.lists.proofs.Bools.{and_left, and_right, and_both, or_cases, or_left, or_right, fails}
 
@@ -76,34 +77,34 @@ module _ {A : Type 0} (p : A → Bool) where
   any_and false (x ∷ xs) = any_and false xs
 
   -- what the search finds is a member of which the test holds
-  pub first_some : (xs : List A) (x : A) → first p xs ≡ some x → (Memᴰ x xs) × (p x ≡ true)
+  pub first_some : (xs : List A) (x : A) → first p xs ≡ Some x → (Memᴰ x xs) × (p x ≡ true)
   unfolding first
-  first_some [] x e = absurd (none-ne-some x e)
+  first_some [] x e = absurd (none-some x e)
   first_some (y ∷ ys) x e = go (p y) refl (first_some ys x)
     where
-      go : (t : Bool) → p y ≡ t → (first p ys ≡ some x → (Memᴰ x ys) × (p x ≡ true)) → (Memᴰ x (y ∷ ys)) × (p x ≡ true)
+      go : (t : Bool) → p y ≡ t → (first p ys ≡ Some x → (Memᴰ x ys) × (p x ≡ true)) → (Memᴰ x (y ∷ ys)) × (p x ≡ true)
       go true t ih =
-          let q : x ≡ y = some-injective x y (sym (rw t at e)) in
+          let q : x ≡ y = same_Some x y (sym (rw t at e)) in
           (Memᴰ.head q, rw q t)
       go false t ih = let r = ih (rw t at e) in (Memᴰ.tail r.0, r.1)
 
   -- it finds one where the test holds of some element, and none where it holds of none
-  pub first_found : (xs : List A) → any p xs ≡ true → (x : A) × (first p xs ≡ some x)
+  pub first_found : (xs : List A) → any p xs ≡ true → (x : A) × (first p xs ≡ Some x)
   unfolding any first
   first_found [] e = absurd (false≢true e)
   first_found (y ∷ ys) e = go (p y) refl (first_found ys)
     where
-      go : (t : Bool) → p y ≡ t → (any p ys ≡ true → (x : A) × (first p ys ≡ some x)) → (x : A) × (first p (y ∷ ys) ≡ some x)
+      go : (t : Bool) → p y ≡ t → (any p ys ≡ true → (x : A) × (first p ys ≡ Some x)) → (x : A) × (first p (y ∷ ys) ≡ Some x)
       go true t ih = (y, rw t)
       go false t ih = let r = ih (rw t at e) in (r.0, rw t r.1)
 
-  pub first_none : (xs : List A) → (first p xs ≡ none) ↔ (any p xs ≡ false)
+  pub first_none : (xs : List A) → (first p xs ≡ None) ↔ (any p xs ≡ false)
   unfolding any first
   first_none [] = (λ e. refl, λ e. refl)
   first_none (y ∷ ys) = go (p y) refl (first_none ys)
     where
-      go : (t : Bool) → p y ≡ t → (first p ys ≡ none) ↔ (any p ys ≡ false) → (first p (y ∷ ys) ≡ none) ↔ (any p (y ∷ ys) ≡ false)
-      go true t ih = rw t (λ e. absurd (some-ne-none y e), λ e. absurd (true≢false e))
+      go : (t : Bool) → p y ≡ t → (first p ys ≡ None) ↔ (any p ys ≡ false) → (first p (y ∷ ys) ≡ None) ↔ (any p (y ∷ ys) ≡ false)
+      go true t ih = rw t (λ e. absurd (none-some y (sym e)), λ e. absurd (true≢false e))
       go false t ih = rw t ih
 
 -- a test holds of all of two lists if it holds of all of each
@@ -124,13 +125,13 @@ module _ {A : Type 0} (p : A → Bool) (a : A) (says : (x : A) → (p x ≡ true
   any_is xs =
       (λ e. (let r = (any_exactly p (λ x. a ≡ x) says xs).0 e in Memᴰ.cast r.2 r.1), λ m. (any_exactly p (λ x. a ≡ x) says xs).1 (a, m, refl))
 
-  pub search_some : (xs : List A) (x : A) → (first p xs ≡ some x) ↔ ((a ≡ x) × (Memᴰ a xs))
-  search_some xs x = (there x, λ r. (let f = first_found p xs ((any_is xs).1 r.1) in f.1 ∙ ap some (sym (there f.0 f.1).0 ∙ r.0)))
+  pub search_some : (xs : List A) (x : A) → (first p xs ≡ Some x) ↔ ((a ≡ x) × (Memᴰ a xs))
+  search_some xs x = (there x, λ r. (let f = first_found p xs ((any_is xs).1 r.1) in f.1 ∙ ap Some (sym (there f.0 f.1).0 ∙ r.0)))
     where
-      there : (x : A) → first p xs ≡ some x → (a ≡ x) × (Memᴰ a xs)
+      there : (x : A) → first p xs ≡ Some x → (a ≡ x) × (Memᴰ a xs)
       there x e = let r = first_some p xs x e in ((says x).0 r.1, Memᴰ.cast ((says x).0 r.1) r.0)
 
-  pub search_none : (xs : List A) → (first p xs ≡ none) ↔ (Memᴰ a xs → ⊥)
+  pub search_none : (xs : List A) → (first p xs ≡ None) ↔ (Memᴰ a xs → ⊥)
   search_none xs =
       (λ e m. true≢false (sym ((any_is xs).1 m) ∙ (first_none p xs).0 e), λ f. (first_none p xs).1 (fails (any p xs) (λ e. f ((any_is xs).0 e))))
 

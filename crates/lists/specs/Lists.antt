@@ -1,6 +1,5 @@
 -- Tests, sums and searches over lists.
-use Rattle.std.specs.Prelude.{ℕ, ◌+◌, List, [], ◌∷◌, Bool, true, false, cond, ◌&&◌, ◌||◌}
-use Rattle.std.proofs.Math.Option.{Option, none, some}
+use Rattle.std.specs.Prelude.{ℕ, ◌+◌, List, [], ◌∷◌, Bool, true, false, cond, ◌&&◌, ◌||◌, Option, Some, None}
 
 module _ {A : Type 0} where
   -- the test holds of every element
@@ -27,10 +26,10 @@ module _ {A : Type 0} where
 
   -- the first element of which the test holds
   unfoldable pub first : (A → Bool) → List A → Option A
-  first p [] = none
+  first p [] = None
   first p (x ∷ xs) =
       let later = first p xs in
-      cond (p x) (some x) later
+      cond (p x) (Some x) later
 
   -- the first element of which the test holds is changed
   unfoldable pub change_first : (A → Bool) → (A → A) → List A → List A
@@ -40,9 +39,9 @@ module _ {A : Type 0} where
       cond (p x) (f x ∷ xs) later
 
   unfoldable pub is_none : Option A → Bool
-  is_none none = true
-  is_none (some x) = false
+  is_none None = true
+  is_none (Some x) = false
 
   unfoldable pub or_else : A → Option A → A
-  or_else d none = d
-  or_else d (some x) = x
+  or_else d None = d
+  or_else d (Some x) = x

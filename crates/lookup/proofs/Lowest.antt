@@ -2,15 +2,16 @@
 -- the alignment, and where no block has room, no multiple is suitable.
 -- The run of a base in a free block touches no other block. A suitable run lies in one free block, so that block has room, and the first block that
 -- has room has its base no higher: it is the same block, or ends before it.
+use Rattle.std.specs.Prelude.{Option, Some, None}
 use mathlib.Core.Path.{◌≡◌, refl, ap, sym, ◌∙◌}
 use mathlib.Core.List.{List, [], ◌∷◌, ◌++◌}
 use mathlib.Core.Bool.{Bool, true, false, not}
-use mathlib.Core.Option.{Option, none, some, none-ne-some}
 use Prim.Native.Nat.{ℕ, ◌+◌, ◌-◌, ◌%◌, ◌≤◌, ◌<◌}
 use native.Mathlib.Omega.{arith}
 use lib.ListN.{length}
 use lib.Dec.{leb}
 use borrow.Author.Tests.{le-leb, leb-true, not-true}
+use Rattle.std.proofs.lemmas.Option.{none-some, some_pair_parts}
 use Rattle.layout.specs.Blocks.{Block, size, units, occupied, total_size, parse}
 use Rattle.layout.proofs.Render.{size_append}
 use Rattle.lists.specs.Lists.{first, total}
@@ -24,7 +25,6 @@ use Rattle.model.proofs.Consistent.{blocks_parsed}
 use Rattle.model.proofs.Base.{some_lowest, none_lowest}
 use Rattle.model.proofs.Carve.{carved}
 use Rattle.lookup.specs.declared.Met.{Met}
-use Rattle.lookup.specs.declared.Fit.TheVariants.{At, Nowhere}
 use Rattle.lookup.specs.Walk.{met, occupied_met, base_in, has_room, fitted, find_fit}
 use Rattle.lookup.proofs.Multiple.{multiple_is, multiple_behind, multiple_lowest}
 use Rattle.lookup.proofs.Fits.{fit_first}
@@ -61,17 +61,18 @@ module _ (a n : ℕ) where
   unfolding has_room
   room_yes m e h = rw e (le-leb (base_in a m + n) (m.at + m.size) h)
 
-fitted_met : (a : ℕ) (m : Met) (b : ℕ) (o : Option Met) → fitted a o ≡ At m b → (o ≡ some m) × (base_in a m ≡ b)
-fitted_met a m b none q = (cc, cc)
-fitted_met a m b (some x) q = (cc, cc)
+fitted_met : (a : ℕ) (m : Met) (b : ℕ) (o : Option Met) → fitted a o ≡ Some (m, b) → (o ≡ Some m) × (base_in a m ≡ b)
+fitted_met a m b None q = (cc, cc)
+fitted_met a m b (Some x) q =
+    let p = some_pair_parts x m (base_in a x) b q in (ap Some p.0, ap (base_in a) (sym p.0) ∙ p.1)
 
-nowhere_met : (a : ℕ) (o : Option Met) → fitted a o ≡ Nowhere → o ≡ none
-nowhere_met a none q = refl
-nowhere_met a (some x) q = cc
+nowhere_met : (a : ℕ) (o : Option Met) → fitted a o ≡ None → o ≡ None
+nowhere_met a None q = refl
+nowhere_met a (Some x) q = cc
 
 -- b is the lowest base for n bytes at alignment a, in the block m, a free block of a heap that is cut into the blocks bs
 pub record Fitting (a n : ℕ) (s : List ℕ) (bs : List Block) (m : Met) (b : ℕ) : Type 0 where
-  pub lowest : lowest_base (length s) (blocks_of s) a n ≡ some b
+  pub lowest : lowest_base (length s) (blocks_of s) a n ≡ Some b
   pub stands : Stands bs m
   pub free : occupied stands.block ≡ false
   pub multiple : b % a ≡ 0
@@ -82,7 +83,7 @@ module _ (a n : ℕ) (positive : 0 < a) where
   -- where a free block holds a run at a multiple of a, the first block that has room has its base no higher
   no_higher : (base at back : ℕ) (xs : List Block) (f : Block) (ys : List Block) → occupied f ≡ false → base % a ≡ 0 → at + total size xs + 8 ≤ base
       → base + n ≤ at + total size xs + size f
-      → (m : Met) × (first (has_room a n) (met_of at back (xs ++ (f ∷ ys))) ≡ some m) × (base_in a m ≤ base)
+      → (m : Met) × (first (has_room a n) (met_of at back (xs ++ (f ∷ ys))) ≡ Some m) × (base_in a m ≤ base)
   unfolding met_of total first
   no_higher base at back [] f ys e multiple low high =
       let m = placed at back f in
@@ -92,24 +93,24 @@ module _ (a n : ℕ) (positive : 0 < a) where
       go (has_room a n (placed at back x)) refl (no_higher base (at + size x) (units x) xs f ys e multiple (omega arith) (omega arith))
     where
       go : (t : Bool) → has_room a n (placed at back x) ≡ t
-          → (m : Met) × (first (has_room a n) (met_of (at + size x) (units x) (xs ++ (f ∷ ys))) ≡ some m) × (base_in a m ≤ base)
-          → (m : Met) × (first (has_room a n) (met_of at back (x ∷ xs ++ (f ∷ ys))) ≡ some m) × (base_in a m ≤ base)
+          → (m : Met) × (first (has_room a n) (met_of (at + size x) (units x) (xs ++ (f ∷ ys))) ≡ Some m) × (base_in a m ≤ base)
+          → (m : Met) × (first (has_room a n) (met_of at back (x ∷ xs ++ (f ∷ ys))) ≡ Some m) × (base_in a m ≤ base)
       go true t ih = (placed at back x, rw t, omega (arith, room_ends a n (placed at back x) t))
       go false t ih = (ih.0, rw t ih.1, ih.2)
 
-  module _ (s : List ℕ) (bs : List Block) (e : parse s ≡ some bs) (apart : free_apart bs ≡ true) where
+  module _ (s : List ℕ) (bs : List Block) (e : parse s ≡ Some bs) (apart : free_apart bs ≡ true) where
     -- so a suitable multiple of a is no lower than the base of the first block that has room
     suitable_found : (base : ℕ) → base % a ≡ 0 → suitable (length s) bs n base ≡ true
-        → (m : Met) × (first (has_room a n) (met s) ≡ some m) × (base_in a m ≤ base)
+        → (m : Met) × (first (has_room a n) (met s) ≡ Some m) × (base_in a m ≤ base)
     suitable_found base multiple fits =
         let t : length s ≡ total size bs = sym (total_parsed s bs e) ∙ total_is bs in
         let c = carved base n 0 bs apart (rw t at fits) in
         rw (met_parsed s bs e, c.split) (no_higher base 0 0 c.front c.block c.back c.free multiple c.low c.high)
 
-    none_lower : (m : Met) (b : ℕ) → first (has_room a n) (met s) ≡ some m → base_in a m ≡ b → (c : ℕ) → c % a ≡ 0 → c < b → suitable (length s) bs n c ≡ false
+    none_lower : (m : Met) (b : ℕ) → first (has_room a n) (met s) ≡ Some m → base_in a m ≡ b → (c : ℕ) → c % a ≡ 0 → c < b → suitable (length s) bs n c ≡ false
     none_lower m b f is c multiple l = fails (suitable (length s) bs n c) (λ t. same (suitable_found c multiple t))
       where
-        same : (x : Met) × (first (has_room a n) (met s) ≡ some x) × (base_in a x ≤ c) → ⊥
+        same : (x : Met) × (first (has_room a n) (met s) ≡ Some x) × (base_in a x ≤ c) → ⊥
         same r =
             let q : r.0 ≡ m = cc (f, r.1) in
             let k : base_in a r.0 ≡ b = rw q is in
@@ -129,7 +130,7 @@ module _ (a n : ℕ) (positive : 0 < a) where
         rw (le-leb 8 b (omega arith), le-leb (b + n) (length s) (omega arith), w.split) out
 
     -- what was found is the lowest base
-    pub base_found : (m : Met) (b : ℕ) → find_fit a n s ≡ At m b → Fitting a n s bs m b
+    pub base_found : (m : Met) (b : ℕ) → find_fit a n s ≡ Some (m, b) → Fitting a n s bs m b
     base_found m b q =
         let g = fitted_met a m b (first (has_room a n) (met s)) (sym (fit_first a n s positive) ∙ q) in
         let f = g.0 in
@@ -151,9 +152,9 @@ module _ (a n : ℕ) (positive : 0 < a) where
         }
 
     -- where no block has room, there is no base
-    pub base_nowhere : find_fit a n s ≡ Nowhere → lowest_base (length s) (blocks_of s) a n ≡ none
+    pub base_nowhere : find_fit a n s ≡ None → lowest_base (length s) (blocks_of s) a n ≡ None
     base_nowhere q =
         let f = nowhere_met a (first (has_room a n) (met s)) (sym (fit_first a n s positive) ∙ q) in
         rw (blocks_parsed s bs e)
         (none_lowest (length s) bs a n positive
-        (λ b multiple. fails (suitable (length s) bs n b) (λ t. (let w = suitable_found b multiple t in none-ne-some w.0 (sym f ∙ w.1)))))
+        (λ b multiple. fails (suitable (length s) bs n b) (λ t. (let w = suitable_found b multiple t in none-some w.0 (sym f ∙ w.1)))))

@@ -1,10 +1,10 @@
 -- The search for the block whose object a handle names: blocks that end at or before the handle's base are passed, the last one that starts a header or more
 -- in front of the base is compared, and no block behind that is named.
+use Rattle.std.specs.Prelude.{Option, Some, None}
 use mathlib.Core.Path.{◌≡◌, refl, ap, ◌∙◌}
 use mathlib.Core.List.{List}
 use mathlib.Core.Logic.{◌⊎◌, inl, ⊎_elim}
 use mathlib.Core.Bool.{Bool, true, false, cond}
-use mathlib.Core.Option.{Option, none, some}
 use Prim.Native.Nat.{ℕ, ◌+◌, ◌*◌, ◌-◌, ◌≤◌, ◌<◌}
 use native.Mathlib.Omega.{arith}
 use lib.ListN.{length}
@@ -16,8 +16,6 @@ use Rattle.model.proofs.Lookup.{Narrowed, names_exactly, whole_exactly}
 use Rattle.layout.specs.Bytes.{read_number}
 use Rattle.lists.proofs.Lists.{first_some}
 use Rattle.lookup.specs.declared.Met.{Met}
-use Rattle.lookup.specs.declared.Lookup.{Lookup}
-use Rattle.lookup.specs.declared.Lookup.TheVariants.{Found, Missing}
 use Rattle.lookup.specs.Walk.{met_at, met, live_met, object_met, holds_named, looked_up, named_met, whole_met, find_object, find_whole}
 use Rattle.lookup.proofs.Walk.{MetAt, met_known, search_met, Searching}
 use Rattle.lookup.proofs.Walk.{search_start, search_ended, search_found, search_passed, search_stepped, search_none}
@@ -35,11 +33,11 @@ before_block h m l = fails (holds_named h m) (λ e. let n = named_parts h m e in
 
 module _ (h : Handle) (s : List ℕ) where
   -- no object has a base in the first header, or behind the heap
-  pub object_low : h.base < 8 → find_object h s ≡ Missing
+  pub object_low : h.base < 8 → find_object h s ≡ None
   unfolding find_object
   object_low l = ap looked_up (search_none (holds_named h) s 0 (search_start (holds_named h) s) (λ x m g e. before_block h m (omega arith)))
 
-  pub object_high : length s < h.base → find_object h s ≡ Missing
+  pub object_high : length s < h.base → find_object h s ≡ None
   unfolding find_object
   object_high l =
       ap looked_up (search_none (holds_named h) s 0 (search_start (holds_named h) s)
@@ -47,7 +45,7 @@ module _ (h : Handle) (s : List ℕ) where
 
   module _ (at : ℕ) (w : Searching (holds_named h) s at) where
     -- a search that ends on the way
-    pub object_ended : met_at at s ≡ Missing → find_object h s ≡ Missing
+    pub object_ended : met_at at s ≡ None → find_object h s ≡ None
     unfolding find_object
     object_ended e = ap looked_up (search_ended (holds_named h) s at w e)
 
@@ -56,7 +54,7 @@ module _ (h : Handle) (s : List ℕ) where
     unfolding find_object
     object_here l = go (met_at at s) refl
       where
-        by_test : (m : Met) → met_at at s ≡ Found m → (t : Bool) → holds_named h m ≡ t → looked_up (first (holds_named h) (met s)) ≡ cond t (Found m) Missing
+        by_test : (m : Met) → met_at at s ≡ Some m → (t : Bool) → holds_named h m ≡ t → looked_up (first (holds_named h) (met s)) ≡ cond t (Some m) None
         by_test m e true t = ap looked_up (search_found (holds_named h) s at w m e t)
         by_test m e false t =
             let k = met_known at s m e in
@@ -64,9 +62,9 @@ module _ (h : Handle) (s : List ℕ) where
             ap looked_up (search_none (holds_named h) s (at + m.size) (search_passed (holds_named h) s at w m e t)
             (λ x b g f. (let n = met_known x s b f in let p = n.place in before_block h b (omega arith))))
 
-        go : (x : Lookup) → met_at at s ≡ x → looked_up (first (holds_named h) (met s)) ≡ named_met h x
-        go Missing e = ap looked_up (search_ended (holds_named h) s at w e)
-        go (Found m) e = by_test m e (holds_named h m) refl
+        go : (x : Option Met) → met_at at s ≡ x → looked_up (first (holds_named h) (met s)) ≡ named_met h x
+        go None e = ap looked_up (search_ended (holds_named h) s at w e)
+        go (Some m) e = by_test m e (holds_named h m) refl
 
 -- the walk by sizes is at a place: behind a block of a size, to whose start the search came; at 0, behind none
 pub record Walked (h : Handle) (s : List ℕ) (at size : ℕ) : Type 0 where
@@ -93,29 +91,29 @@ module _ (h : Handle) (s : List ℕ) where
 
 module _ (h : Handle) (s : List ℕ) where
   -- the block that is found is met where it stands
-  pub found_met : (m : Met) → find_object h s ≡ Found m → MetAt m.at s m
+  pub found_met : (m : Met) → find_object h s ≡ Some m → MetAt m.at s m
   unfolding find_object
   found_met m = go (first (holds_named h) (met s)) refl
     where
-      go : (x : Option Met) → first (holds_named h) (met s) ≡ x → looked_up x ≡ Found m → MetAt m.at s m
-      go none e f = let z : ◌≡◌ {A = ℕ} 0 1 = cc in absurd (omega arith)
-      go (some b) e f = let q : b ≡ m = cc in met_known m.at s m (search_met (holds_named h) s m (rw q at e))
+      go : (x : Option Met) → first (holds_named h) (met s) ≡ x → looked_up x ≡ Some m → MetAt m.at s m
+      go None e f = let z : ◌≡◌ {A = ℕ} 0 1 = cc in absurd (omega arith)
+      go (Some b) e f = let q : b ≡ m = cc in met_known m.at s m (search_met (holds_named h) s m (rw q at e))
 
   -- its object is named by the handle
-  pub found_narrowed : (m : Met) → find_object h s ≡ Found m → Narrowed h (object_met m)
+  pub found_narrowed : (m : Met) → find_object h s ≡ Some m → Narrowed h (object_met m)
   unfolding find_object
   found_narrowed m = go (first (holds_named h) (met s)) refl
     where
-      go : (x : Option Met) → first (holds_named h) (met s) ≡ x → looked_up x ≡ Found m → Narrowed h (object_met m)
-      go none e f = let z : ◌≡◌ {A = ℕ} 0 1 = cc in absurd (omega arith)
-      go (some b) e f = let q : b ≡ m = cc in named_parts h m (first_some (holds_named h) (met s) m (rw q at e)).1
+      go : (x : Option Met) → first (holds_named h) (met s) ≡ x → looked_up x ≡ Some m → Narrowed h (object_met m)
+      go None e f = let z : ◌≡◌ {A = ℕ} 0 1 = cc in absurd (omega arith)
+      go (Some b) e f = let q : b ≡ m = cc in named_parts h m (first_some (holds_named h) (met s) m (rw q at e)).1
 
   -- the handle is the whole of its object, or not: a range inside it that is as long begins where it begins
-  pub whole_same : (m : Met) → find_object h s ≡ Found m → h.length ≡ m.size - 8 → find_whole h s ≡ Found m
+  pub whole_same : (m : Met) → find_object h s ≡ Some m → h.length ≡ m.size - 8 → find_whole h s ≡ Some m
   unfolding find_whole
   whole_same m e l =
       ap (whole_met h) e
-      ∙ ap (λ (t : Bool). cond t (Found m) Missing) ((whole_exactly h (object_met m)).1 (λ i. record { base = b i; length = l i; serial = n.serial i }))
+      ∙ ap (λ (t : Bool). cond t (Some m) None) ((whole_exactly h (object_met m)).1 (λ i. record { base = b i; length = l i; serial = n.serial i }))
     where
       n : Narrowed h (object_met m)
       n = found_narrowed m e
@@ -123,23 +121,23 @@ module _ (h : Handle) (s : List ℕ) where
       b : h.base ≡ m.at + 8
       b = let low = n.low in let high = n.high in omega arith
 
-  pub whole_other : (m : Met) → find_object h s ≡ Found m → (h ≡ object_met m → ⊥) → find_whole h s ≡ Missing
+  pub whole_other : (m : Met) → find_object h s ≡ Some m → (h ≡ object_met m → ⊥) → find_whole h s ≡ None
   unfolding find_whole
   whole_other m e d =
       ap (whole_met h) e
-      ∙ ap (λ (t : Bool). cond t (Found m) Missing) (fails (whole h (object_met m)) (λ w. d ((whole_exactly h (object_met m)).0 w)))
+      ∙ ap (λ (t : Bool). cond t (Some m) None) (fails (whole h (object_met m)) (λ w. d ((whole_exactly h (object_met m)).0 w)))
 
   -- what find-whole gives was found, and the handle is its object
-  pub whole_found : (m : Met) → find_whole h s ≡ Found m → (find_object h s ≡ Found m) × (h ≡ object_met m)
+  pub whole_found : (m : Met) → find_whole h s ≡ Some m → (find_object h s ≡ Some m) × (h ≡ object_met m)
   unfolding find_whole
   whole_found m = go (find_object h s) refl
     where
-      test : (b : Met) (t : Bool) → whole h (object_met b) ≡ t → find_object h s ≡ Found b → cond t (Found b) Missing ≡ Found m
-          → (find_object h s ≡ Found m) × (h ≡ object_met m)
+      test : (b : Met) (t : Bool) → whole h (object_met b) ≡ t → find_object h s ≡ Some b → cond t (Some b) None ≡ Some m
+          → (find_object h s ≡ Some m) × (h ≡ object_met m)
       test b true t e f =
-          let q : b ≡ m = cc in let r : (find_object h s ≡ Found b) × (h ≡ object_met b) = (e, (whole_exactly h (object_met b)).0 t) in rw q at r
+          let q : b ≡ m = cc in let r : (find_object h s ≡ Some b) × (h ≡ object_met b) = (e, (whole_exactly h (object_met b)).0 t) in rw q at r
       test b false t e f = let z : ◌≡◌ {A = ℕ} 0 1 = cc in absurd (omega arith)
 
-      go : (x : Lookup) → find_object h s ≡ x → whole_met h x ≡ Found m → (find_object h s ≡ Found m) × (h ≡ object_met m)
-      go Missing e f = let z : ◌≡◌ {A = ℕ} 0 1 = cc in absurd (omega arith)
-      go (Found b) e f = test b (whole h (object_met b)) refl e f
+      go : (x : Option Met) → find_object h s ≡ x → whole_met h x ≡ Some m → (find_object h s ≡ Some m) × (h ≡ object_met m)
+      go None e f = let z : ◌≡◌ {A = ℕ} 0 1 = cc in absurd (omega arith)
+      go (Some b) e f = test b (whole h (object_met b)) refl e f

@@ -10,17 +10,3 @@ pub struct Met {
     pub back: usize,
     pub serial: u32,
 }
-
-// The block that was looked for.
-#[derive(Clone, Copy)]
-pub enum Lookup {
-    Found(Met),
-    Missing,
-}
-
-// The block that has room for a new object, and the object's base.
-#[derive(Clone, Copy)]
-pub enum Fit {
-    At(Met, usize),
-    Nowhere,
-}

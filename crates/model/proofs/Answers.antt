@@ -3,12 +3,14 @@
 -- A number gives its refusal back, which shows that no two have the same; of an answer, the refusal's number and the value give it back.
 -- And `answer_of` loses nothing: the answer that it gives to what `step` gives has step's values, so two outcomes of a call with different values
 -- have different answers. Every line of a call has the number of a refusal, which is computed; the rest is by cases of the calls.
+use Rattle.model.specs.declared.Range.{Range}
+use Rattle.model.specs.declared.Handle.{Handle}
+use Rattle.std.specs.Prelude.{Option, Some, None, Result, Ok, Err}
 use mathlib.Core.Path.{◌≡◌, refl, ap, sym, ◌∙◌}
 use Prim.Native.Nat.{ℕ, zero, suc, ◌≤◌}
 use native.Mathlib.Omega.{arith}
 use mathlib.Core.List.{List, [], ◌∷◌, map}
 use mathlib.Core.Bool.{Bool, true, false}
-use mathlib.Core.Option.{Option, none, some}
 use lib.Dec.{eqb}
 use borrow.Author.Tests.{ne_eqb, eqb-true}
 use Rattle.accounts.specs.declared.Accounts.{Accounts}
@@ -29,17 +31,7 @@ use Rattle.model.specs.declared.ListedBlock.{ListedBlock}
 use Rattle.model.specs.declared.Refusal.{Refusal}
 use Rattle.model.specs.declared.Refusal.TheVariants.{HeapLength, Inconsistent, QuotaNumber, ObjectLength, NoSuchObject, NotHeld, CountLimit}
 use Rattle.model.specs.declared.Refusal.TheVariants.{QuotaExceeded, HoldsExhausted, SerialsExhausted, NoSpace, NotPermitted}
-use Rattle.model.specs.declared.Verdict.{Verdict}
-use Rattle.model.specs.declared.Verdict.TheVariants.{Accepted, Refused as NotAccepted}
 use Rattle.model.specs.declared.Handle.{Handle as Object}
-use Rattle.model.specs.declared.HandleAnswer.{HandleAnswer}
-use Rattle.model.specs.declared.HandleAnswer.TheVariants.{Given, Refused as NotGiven}
-use Rattle.model.specs.declared.AmountAnswer.{AmountAnswer}
-use Rattle.model.specs.declared.AmountAnswer.TheVariants.{Amount, Refused as NoAmount}
-use Rattle.model.specs.declared.RangeAnswer.{RangeAnswer}
-use Rattle.model.specs.declared.RangeAnswer.TheVariants.{Lent, Refused as NotLent}
-use Rattle.model.specs.declared.BlockAnswer.{BlockAnswer}
-use Rattle.model.specs.declared.BlockAnswer.TheVariants.{Listed, NoBlock, Refused as NotListed}
 use Rattle.model.specs.declared.Answer.{Answer}
 use Rattle.model.specs.declared.Answer.TheVariants.{Verdict as OfVerdict, Handle as OfHandle, Amount as OfAmount, Range as OfRange, Block as OfBlock}
 use Rattle.model.specs.declared.Call.{Call}
@@ -80,65 +72,65 @@ answer_refused a refuse r =
     rw (e, n.0)
 
 -- the values of an answer give it back
-pub verdict_back : (a : Verdict) → verdict_from (verdict_values a) ≡ a
+pub verdict_back : (a : Result (Unit {0}) Refusal) → verdict_from (verdict_values a) ≡ a
 unfolding verdict_values
-verdict_back Accepted = refl
-verdict_back (NotAccepted r) = answer_refused Accepted NotAccepted r
+verdict_back (Ok tt) = refl
+verdict_back (Err r) = answer_refused (Ok tt) Err r
 
-pub handle_back : (a : HandleAnswer) → handle_from (handle_values a) ≡ a
+pub handle_back : (a : Result Handle Refusal) → handle_from (handle_values a) ≡ a
 unfolding handle_values
-handle_back (Given h) = refl
-handle_back (NotGiven r) = answer_refused _ NotGiven r
+handle_back (Ok h) = refl
+handle_back (Err r) = answer_refused _ Err r
 
-pub amount_back : (a : AmountAnswer) → amount_from (amount_values a) ≡ a
+pub amount_back : (a : Result ℕ Refusal) → amount_from (amount_values a) ≡ a
 unfolding amount_values
-amount_back (Amount n) = refl
-amount_back (NoAmount r) = answer_refused (Amount 0) NoAmount r
+amount_back (Ok n) = refl
+amount_back (Err r) = answer_refused (Ok 0) Err r
 
-pub range_back : (a : RangeAnswer) → range_from (range_values a) ≡ a
+pub range_back : (a : Result Range Refusal) → range_from (range_values a) ≡ a
 unfolding range_values
-range_back (Lent r) = refl
-range_back (NotLent r) = answer_refused _ NotLent r
+range_back (Ok r) = refl
+range_back (Err r) = answer_refused _ Err r
 
-pub block_back : (a : BlockAnswer) → block_from (block_values a) ≡ a
+pub block_back : (a : Result (Option ListedBlock) Refusal) → block_from (block_values a) ≡ a
 unfolding block_values
-block_back (Listed b) = refl
-block_back NoBlock = refl
-block_back (NotListed r) = answer_refused NoBlock NotListed r
+block_back (Ok (Some b)) = refl
+block_back (Ok None) = refl
+block_back (Err r) = answer_refused (Ok None) Err r
 
 -- so no two answers of a type have the same values
-pub verdict_values_injective : (a c : Verdict) → verdict_values a ≡ verdict_values c → a ≡ c
+pub verdict_values_injective : (a c : Result (Unit {0}) Refusal) → verdict_values a ≡ verdict_values c → a ≡ c
 verdict_values_injective = told_apart verdict_values verdict_from verdict_back
 
-pub handle_values_injective : (a c : HandleAnswer) → handle_values a ≡ handle_values c → a ≡ c
+pub handle_values_injective : (a c : Result Handle Refusal) → handle_values a ≡ handle_values c → a ≡ c
 handle_values_injective = told_apart handle_values handle_from handle_back
 
-pub amount_values_injective : (a c : AmountAnswer) → amount_values a ≡ amount_values c → a ≡ c
+pub amount_values_injective : (a c : Result ℕ Refusal) → amount_values a ≡ amount_values c → a ≡ c
 amount_values_injective = told_apart amount_values amount_from amount_back
 
-pub range_values_injective : (a c : RangeAnswer) → range_values a ≡ range_values c → a ≡ c
+pub range_values_injective : (a c : Result Range Refusal) → range_values a ≡ range_values c → a ≡ c
 range_values_injective = told_apart range_values range_from range_back
 
-pub block_values_injective : (a c : BlockAnswer) → block_values a ≡ block_values c → a ≡ c
+pub block_values_injective : (a c : Result (Option ListedBlock) Refusal) → block_values a ≡ block_values c → a ≡ c
 block_values_injective = told_apart block_values block_from block_back
 
 -- the answer of each call to the values of an acceptance that gives nothing: in the call's own answer type; and of some refusals
-pub answer_rows : (answer_of (Allocate 1 8) accepted ≡ OfHandle (Given zero_handle))
-    × (answer_of (AllocateArray 1 8 1) accepted ≡ OfHandle (Given zero_handle))
-    × (answer_of (Claim 1 zero_handle) accepted ≡ OfAmount (Amount 0))
-    × (answer_of (Release 1 zero_handle) accepted ≡ OfAmount (Amount 0))
-    × (answer_of (FreeAll 1) accepted ≡ OfAmount (Amount 0))
-    × (answer_of Sweep accepted ≡ OfAmount (Amount 0))
-    × (answer_of (Reallocate 1 zero_handle 8) accepted ≡ OfHandle (Given zero_handle))
-    × (answer_of (Lend zero_handle) accepted ≡ OfRange (Lent (record { start = 0; end = 0 })))
-    × (answer_of (Remaining 1) accepted ≡ OfAmount (Amount 0))
-    × (answer_of (CanRelease 1 zero_handle) accepted ≡ OfVerdict Accepted)
-    × (answer_of (ListBlock 0) accepted ≡ OfBlock NoBlock)
-    × (answer_of (ClearPermissions 1 8) accepted ≡ OfAmount (Amount 0))
-    × (answer_of (Lend zero_handle) (refused 5) ≡ OfRange (NotLent NoSuchObject))
-    × (answer_of (CanRelease 1 zero_handle) (refused 6) ≡ OfVerdict (NotAccepted NotHeld))
-    × (answer_of (Allocate 1 8) (refused 11) ≡ OfHandle (NotGiven NoSpace))
-    × (answer_of (FreeAll 1) (refused 12) ≡ OfAmount (NoAmount NotPermitted))
+pub answer_rows : (answer_of (Allocate 1 8) accepted ≡ OfHandle (Ok zero_handle))
+    × (answer_of (AllocateArray 1 8 1) accepted ≡ OfHandle (Ok zero_handle))
+    × (answer_of (Claim 1 zero_handle) accepted ≡ OfAmount (Ok 0))
+    × (answer_of (Release 1 zero_handle) accepted ≡ OfAmount (Ok 0))
+    × (answer_of (FreeAll 1) accepted ≡ OfAmount (Ok 0))
+    × (answer_of Sweep accepted ≡ OfAmount (Ok 0))
+    × (answer_of (Reallocate 1 zero_handle 8) accepted ≡ OfHandle (Ok zero_handle))
+    × (answer_of (Lend zero_handle) accepted ≡ OfRange (Ok (record { start = 0; end = 0 })))
+    × (answer_of (Remaining 1) accepted ≡ OfAmount (Ok 0))
+    × (answer_of (CanRelease 1 zero_handle) accepted ≡ OfVerdict (Ok tt))
+    × (answer_of (ListBlock 0) accepted ≡ OfBlock (Ok None))
+    × (answer_of (ClearPermissions 1 8) accepted ≡ OfAmount (Ok 0))
+    × (answer_of (Lend zero_handle) (refused 5) ≡ OfRange (Err NoSuchObject))
+    × (answer_of (CanRelease 1 zero_handle) (refused 6) ≡ OfVerdict (Err NotHeld))
+    × (answer_of (Allocate 1 8) (refused 11) ≡ OfHandle (Err NoSpace))
+    × (answer_of (FreeAll 1) (refused 12) ≡ OfAmount (Err NotPermitted))
 unfolding answer_of
 answer_rows = (refl, refl, refl, refl, refl, refl, refl, refl, refl, refl, refl, refl, refl, refl, refl, refl)
 
@@ -186,28 +178,28 @@ module _ (f : Values → Answer) (refuses : (r : Refusal) → Faithful f (refuse
 -- of each answer type: a refusal's answer has the refusal's values
 verdict_refuses : (r : Refusal) → Faithful (λ v. OfVerdict (verdict_from v)) (refused (refusal_number r))
 unfolding answer_values verdict_values
-verdict_refuses r = ap (λ (a : Verdict). answer_values (OfVerdict a)) (answer_refused Accepted NotAccepted r)
+verdict_refuses r = ap (λ (a : Result (Unit {0}) Refusal). answer_values (OfVerdict a)) (answer_refused (Ok tt) Err r)
 
 handle_refuses : (r : Refusal) → Faithful (λ v. OfHandle (handle_from v)) (refused (refusal_number r))
 unfolding answer_values handle_values
-handle_refuses r = ap (λ (a : HandleAnswer). answer_values (OfHandle a)) (answer_refused (Given zero_handle) NotGiven r)
+handle_refuses r = ap (λ (a : Result Handle Refusal). answer_values (OfHandle a)) (answer_refused (Ok zero_handle) Err r)
 
 amount_refuses : (r : Refusal) → Faithful (λ v. OfAmount (amount_from v)) (refused (refusal_number r))
 unfolding answer_values amount_values
-amount_refuses r = ap (λ (a : AmountAnswer). answer_values (OfAmount a)) (answer_refused (Amount 0) NoAmount r)
+amount_refuses r = ap (λ (a : Result ℕ Refusal). answer_values (OfAmount a)) (answer_refused (Ok 0) Err r)
 
 range_refuses : (r : Refusal) → Faithful (λ v. OfRange (range_from v)) (refused (refusal_number r))
 unfolding answer_values range_values
-range_refuses r = ap (λ (a : RangeAnswer). answer_values (OfRange a)) (answer_refused (Lent zero_range) NotLent r)
+range_refuses r = ap (λ (a : Result Range Refusal). answer_values (OfRange a)) (answer_refused (Ok zero_range) Err r)
 
 block_refuses : (r : Refusal) → Faithful (λ v. OfBlock (block_from v)) (refused (refusal_number r))
 unfolding answer_values block_values
-block_refuses r = ap (λ (a : BlockAnswer). answer_values (OfBlock a)) (answer_refused NoBlock NotListed r)
+block_refuses r = ap (λ (a : Result (Option ListedBlock) Refusal). answer_values (OfBlock a)) (answer_refused (Ok None) Err r)
 
 block_lists : (b : Option ListedBlock) → Faithful (λ v. OfBlock (block_from v)) (listed b)
 unfolding answer_values block_values
-block_lists none = refl
-block_lists (some b) = refl
+block_lists None = refl
+block_lists (Some b) = refl
 
 -- the answer to what `step` gives has step's values: call by call, and of any call
 allocate_answer : (unit : ℕ → ℕ) (q : ℕ) (n : ℕ) (s : List ℕ) (k : Accounts) → Faithful (answer_of (Allocate q n)) (step unit (Allocate q n) s k).values

@@ -1,16 +1,17 @@
 -- The base of a new object is that of rule 8.6: the lowest multiple of the alignment whose bytes lie in the heap and in no occupied block.
 -- The search goes through the multiples in order, so what it finds passes and nothing before it does; it ends at H, and above H nothing fits.
 -- Two ranges of bytes that overlap share the later of their two starts, so comparing ends is the same as looking at every byte.
+use Rattle.std.specs.Prelude.{Option, Some, None}
 use mathlib.Core.Path.{◌≡◌, refl, sym, ◌∙◌}
 use Prim.Native.Nat.{ℕ, zero, suc, ◌+◌, ◌*◌, ◌-◌, ◌/◌, ◌%◌, ◌≤◌, ◌<◌, max}
 use native.Mathlib.Nat.{not-suc-le-zero, le_of_suc-le-suc, suc-mul, zero-mul, mul-mod_left, div-add-mod', div-lt_iff_lt-mul, le-div_iff_mul-le, zero-add}
 use native.Mathlib.Omega.{arith}
 use mathlib.Core.List.{List, [], ◌∷◌}
 use mathlib.Core.Bool.{Bool, true, false, not, ◌&&◌, ◌||◌, true≢false}
-use mathlib.Core.Option.{Option, none, some, none-ne-some}
 use mathlib.Core.Logic.{◌↔◌}
 use lib.Dec.{leb, ltb}
 use borrow.Author.Tests.{leb-true, leb-false, ltb-true, ltb-false, le-leb, lt-leb, lt-ltb, le-ltb}
+use Rattle.std.proofs.lemmas.Option.{none-some}
 use Rattle.layout.specs.Blocks.{Block, size, occupied}
 use Rattle.model.specs.Space.{outside_occupied, suitable, first_candidate, lowest_base}
 use Rattle.model.proofs.Rows
@@ -30,8 +31,8 @@ at_start p step from h = let e : from + 0 * step ≡ from = simp zero-mul (omega
 at_next : (p : ℕ → Bool) (step from i : ℕ) → p (from + step + i * step) ≡ false → p (from + suc i * step) ≡ false
 at_next p step from i h = let e : from + suc i * step ≡ from + step + i * step = simp suc-mul (omega arith) in rw e h
 
-some_cons : (p : ℕ → Bool) (count step from b : ℕ) (x : Bool) → p from ≡ x → first_candidate p (suc count) step from ≡ some b
-    → (first_candidate p count step (from + step) ≡ some b → First p count step (from + step) b) → First p (suc count) step from b
+some_cons : (p : ℕ → Bool) (count step from b : ℕ) (x : Bool) → p from ≡ x → first_candidate p (suc count) step from ≡ Some b
+    → (first_candidate p count step (from + step) ≡ Some b → First p count step (from + step) b) → First p (suc count) step from b
 unfolding first_candidate
 some_cons p count step from b true ep e ih =
     let eq : from ≡ b = cc in
@@ -47,19 +48,19 @@ some_cons p count step from b false ep e ih =
     }
 
 -- what the search finds is the first candidate that passes
-pub candidate_some : (p : ℕ → Bool) (count step from b : ℕ) → first_candidate p count step from ≡ some b → First p count step from b
+pub candidate_some : (p : ℕ → Bool) (count step from b : ℕ) → first_candidate p count step from ≡ Some b → First p count step from b
 unfolding first_candidate
-candidate_some p zero step from b e = absurd (none-ne-some b e)
+candidate_some p zero step from b e = absurd (none-some b e)
 candidate_some p (suc count) step from b e = some_cons p count step from b (p from) refl e (candidate_some p count step (from + step) b)
 
-none_cons : (p : ℕ → Bool) (count step from : ℕ) (x : Bool) → p from ≡ x → first_candidate p (suc count) step from ≡ none
-    → (p from ≡ false) × (first_candidate p count step (from + step) ≡ none)
+none_cons : (p : ℕ → Bool) (count step from : ℕ) (x : Bool) → p from ≡ x → first_candidate p (suc count) step from ≡ None
+    → (p from ≡ false) × (first_candidate p count step (from + step) ≡ None)
 unfolding first_candidate
 none_cons p count step from true ep e = (cc, cc)
 none_cons p count step from false ep e = (ep, rw ep at e)
 
 -- where it finds none, no candidate passes
-pub candidate_none : (p : ℕ → Bool) (count step from i : ℕ) → first_candidate p count step from ≡ none → i < count → p (from + i * step) ≡ false
+pub candidate_none : (p : ℕ → Bool) (count step from i : ℕ) → first_candidate p count step from ≡ None → i < count → p (from + i * step) ≡ false
 candidate_none p zero step from i e h = absurd (not-suc-le-zero h)
 candidate_none p (suc count) step from zero e h = at_start p step from (none_cons p count step from (p from) refl e).0
 candidate_none p (suc count) step from (suc i) e h =
@@ -82,7 +83,7 @@ module _ (H : ℕ) (bs : List Block) (a n : ℕ) (some-step : 0 < a) where
   quotient b m = omega (arith, div-add-mod' b a)
 
   -- the base that is found is the lowest suitable multiple of the alignment
-  pub lowest_some : (b : ℕ) → lowest_base H bs a n ≡ some b → Lowest H bs a n b
+  pub lowest_some : (b : ℕ) → lowest_base H bs a n ≡ Some b → Lowest H bs a n b
   unfolding lowest_base
   lowest_some b e =
       let f = candidate_some (suitable H bs n) (suc (H / a)) a 0 b e in
@@ -97,7 +98,7 @@ module _ (H : ℕ) (bs : List Block) (a n : ℕ) (some-step : 0 < a) where
       }
 
   -- where none is found, no multiple of the alignment is suitable
-  pub lowest_none : lowest_base H bs a n ≡ none → (b : ℕ) → b % a ≡ 0 → suitable H bs n b ≡ false
+  pub lowest_none : lowest_base H bs a n ≡ None → (b : ℕ) → b % a ≡ 0 → suitable H bs n b ≡ false
   unfolding lowest_base
   lowest_none e b m = go (leb b H) refl
     where
@@ -109,7 +110,7 @@ module _ (H : ℕ) (bs : List Block) (a n : ℕ) (some-step : 0 < a) where
       go false h = beyond H bs n b (leb-false b H h)
 
   -- the lowest suitable multiple of the alignment is found
-  pub some_lowest : (b : ℕ) → Lowest H bs a n b → lowest_base H bs a n ≡ some b
+  pub some_lowest : (b : ℕ) → Lowest H bs a n b → lowest_base H bs a n ≡ Some b
   some_lowest b l = go (lowest_base H bs a n) refl
     where
       same : (c : ℕ) → Lowest H bs a n c → (x y : Bool) → ltb b c ≡ x → ltb c b ≡ y → b ≡ c
@@ -117,17 +118,17 @@ module _ (H : ℕ) (bs : List Block) (a n : ℕ) (some-step : 0 < a) where
       same c k false true e f = absurd (true≢false (sym k.fits ∙ l.lower c k.multiple (ltb-true c b f)))
       same c k false false e f = omega (arith, ltb-false b c e, ltb-false c b f)
 
-      go : (o : Option ℕ) → lowest_base H bs a n ≡ o → lowest_base H bs a n ≡ some b
-      go none e = absurd (true≢false (sym l.fits ∙ lowest_none e b l.multiple))
-      go (some c) e = rw (same c (lowest_some c e) (ltb b c) (ltb c b) refl refl) e
+      go : (o : Option ℕ) → lowest_base H bs a n ≡ o → lowest_base H bs a n ≡ Some b
+      go None e = absurd (true≢false (sym l.fits ∙ lowest_none e b l.multiple))
+      go (Some c) e = rw (same c (lowest_some c e) (ltb b c) (ltb c b) refl refl) e
 
   -- where no multiple of the alignment is suitable, none is found
-  pub none_lowest : ((b : ℕ) → b % a ≡ 0 → suitable H bs n b ≡ false) → lowest_base H bs a n ≡ none
+  pub none_lowest : ((b : ℕ) → b % a ≡ 0 → suitable H bs n b ≡ false) → lowest_base H bs a n ≡ None
   none_lowest f = go (lowest_base H bs a n) refl
     where
-      go : (o : Option ℕ) → lowest_base H bs a n ≡ o → lowest_base H bs a n ≡ none
-      go none e = e
-      go (some c) e = let l = lowest_some c e in absurd (true≢false (sym l.fits ∙ f c l.multiple))
+      go : (o : Option ℕ) → lowest_base H bs a n ≡ o → lowest_base H bs a n ≡ None
+      go None e = e
+      go (Some c) e = let l = lowest_some c e in absurd (true≢false (sym l.fits ∙ f c l.multiple))
 
 -- the byte at i lies in an occupied block, where the first block starts at a place
 unfoldable pub in_occupied : ℕ → ℕ → List Block → Bool
@@ -216,8 +217,8 @@ pub record Possible (H : ℕ) (bs : List Block) (a n b : ℕ) : Type 0 where
 
 -- the lowest such base, or none where there is no such base
 abbrev pub LowestOf : ℕ → List Block → ℕ → ℕ → Option ℕ → Type 0
-LowestOf H bs a n none = (b : ℕ) → Possible H bs a n b → ⊥
-LowestOf H bs a n (some b) = Possible H bs a n b × ((c : ℕ) → c < b → Possible H bs a n c → ⊥)
+LowestOf H bs a n None = (b : ℕ) → Possible H bs a n b → ⊥
+LowestOf H bs a n (Some b) = Possible H bs a n b × ((c : ℕ) → c < b → Possible H bs a n c → ⊥)
 
 module _ (H : ℕ) (bs : List Block) (a n : ℕ) (some-step : 0 < a) where
   -- what is not suitable is no such base, and what is no such base is not suitable
@@ -228,11 +229,11 @@ module _ (H : ℕ) (bs : List Block) (a n : ℕ) (some-step : 0 < a) where
   unsuitable b f m = fails (suitable H bs n b) (λ e. f (record { multiple = m; suits = suitable_bytes H bs n b e }))
 
   pub base_is : (o : Option ℕ) → (lowest_base H bs a n ≡ o) ↔ LowestOf H bs a n o
-  base_is none = (
+  base_is None = (
     λ e b. impossible b (lowest_none H bs a n some-step e b),
     λ f. none_lowest H bs a n some-step (λ b. unsuitable b (f b)),
   )
-  base_is (some b) = (
+  base_is (Some b) = (
     λ e.
         (let l = lowest_some H bs a n some-step b e in
         (record { multiple = l.multiple; suits = suitable_bytes H bs n b l.fits }, λ c h. impossible c (λ m. l.lower c m h))),

@@ -1,12 +1,12 @@
 -- Rules 5.1 to 5.8 as statements about blocks, objects, records and quotas; the test for them passes exactly if they hold. It is
 -- an `and` of seven tests, each over a list or its pairs, and goes by induction on the list.
+use Rattle.std.specs.Prelude.{Option, Some, None}
 use mathlib.Core.Path.{◌≡◌, refl, ap, sym, ◌∙◌}
 use Prim.Native.Nat.{ℕ, zero, suc, ◌+◌, ◌≤◌, ◌<◌, suc-le-suc, zero-le}
 use native.Mathlib.Omega.{arith}
 use native.Mathlib.Nat.{not-suc-le-zero, le_of_suc-le-suc, add-zero, add-suc, suc-add, zero-add}
 use mathlib.Core.List.{List, [], ◌∷◌, ◌++◌, Memᴰ}
 use mathlib.Core.Bool.{Bool, true, false, not, ◌&&◌, ◌||◌, false≢true}
-use mathlib.Core.Option.{Option, none, some}
 use mathlib.Core.Logic.{◌↔◌, ⊎_elim}
 use lib.ListN.{length, get_or}
 use lib.Dec.{leb, ltb, eqb}
@@ -241,11 +241,11 @@ unfolding serials_differ all
 objects_few [] hs d a = omega arith
 objects_few (o ∷ os) hs d a =
     let r = taken_away hs o.serial (and_left (held hs o.serial) _ a) in
-    let none = not-true (any (has_serial o.serial) os) (and_left (not (any (has_serial o.serial) os)) _ d) in
+    let None = not-true (any (has_serial o.serial) os) (and_left (not (any (has_serial o.serial) os)) _ d) in
     let ih = objects_few os r.0 (and_right (not (any (has_serial o.serial) os)) _ d)
     (member_all (λ p. held r.0 p.serial) os
     (λ p m.
-    (r.2 p.serial (fails (eqb p.serial o.serial) (none_member (has_serial o.serial) os none p m))
+    (r.2 p.serial (fails (eqb p.serial o.serial) (none_member (has_serial o.serial) os None p m))
     (all_member (λ x. held hs x.serial) os (and_right (held hs o.serial) _ a) p m)))) in
     omega (arith, r.1)
 
@@ -303,23 +303,23 @@ facts_exactly bs k = (λ e. there ((tests_exactly bs k).0 e), λ f. (tests_exact
         }
 
 -- the blocks of a heap are those that it is cut into
-pub blocks_parsed : (s : List ℕ) (bs : List Block) → parse s ≡ some bs → blocks_of s ≡ bs
+pub blocks_parsed : (s : List ℕ) (bs : List Block) → parse s ≡ Some bs → blocks_of s ≡ bs
 unfolding blocks_of or_else
 blocks_parsed s bs e = rw e
 
 -- heap and accounts account for each other exactly if the heap is cut into blocks for which the test passes
 pub accounted_exactly : (s : List ℕ) (k : Accounts) → (accounted s k ≡ true)
-    ↔ ((bs : List Block) × (parse s ≡ some bs) × (accounted_blocks bs k ≡ true))
+    ↔ ((bs : List Block) × (parse s ≡ Some bs) × (accounted_blocks bs k ≡ true))
 unfolding accounted accounted_parsed
 accounted_exactly s k = (go (parse s) refl, λ r. rw r.1 r.2)
   where
-    go : (o : Option (List Block)) → parse s ≡ o → accounted_parsed o k ≡ true → (bs : List Block) × (parse s ≡ some bs)
+    go : (o : Option (List Block)) → parse s ≡ o → accounted_parsed o k ≡ true → (bs : List Block) × (parse s ≡ Some bs)
         × (accounted_blocks bs k ≡ true)
-    go none p e = absurd (false≢true e)
-    go (some bs) p e = (bs, p, e)
+    go None p e = absurd (false≢true e)
+    go (Some bs) p e = (bs, p, e)
 
 -- and these are its blocks
-pub accounted_cut : (s : List ℕ) (k : Accounts) → accounted s k ≡ true → (parse s ≡ some (blocks_of s)) × (accounted_blocks (blocks_of s) k ≡ true)
+pub accounted_cut : (s : List ℕ) (k : Accounts) → accounted s k ≡ true → (parse s ≡ Some (blocks_of s)) × (accounted_blocks (blocks_of s) k ≡ true)
 accounted_cut s k e = let r = (accounted_exactly s k).0 e in rw (blocks_parsed s r.0 r.1) (r.1, r.2)
 
 -- no two free ones of them stand side by side

@@ -1,6 +1,7 @@
 -- The listing's law (rules 8.32 to 8.34): a step gives the block that starts at a place and none elsewhere;
 -- the steps from 0 on, each to the end of the block before, are all the blocks in order, and then none.
 -- Every block has at least its header's eight bytes, so that each starts behind all before it and no two start at one place.
+use Rattle.std.specs.Prelude.{Option, Some, None}
 use mathlib.Core.Path.{◌≡◌, refl, ap, sym, ◌∙◌}
 use Prim.Native.Nat.{ℕ, zero, suc, ◌+◌, ◌≤◌}
 use native.Mathlib.Nat.{not-suc-le-zero, le_of_suc-le-suc}
@@ -8,7 +9,6 @@ use native.Mathlib.Omega.{arith}
 use mathlib.Core.List.Memᴰ
 use mathlib.Core.List.{List, [], ◌∷◌, ◌++◌, append-nil, Memᴰ}
 use mathlib.Core.Bool.{Bool, true, false, not}
-use mathlib.Core.Option.{Option, none, some}
 use mathlib.Core.Logic.{◌⊎◌, inl, inr, ◌↔◌}
 use lib.ListN.{length}
 use lib.Seq.{append_snoc}
@@ -45,7 +45,7 @@ list_block_step unit s k at e = rw e
 
 -- behind the blocks xs it gives the block that starts there
 step_from : (from : ℕ) (xs : List Block) (b : Block) (ys : List Block) (at : ℕ) → at ≡ from + total size xs → block_at_from from (xs ++ (b ∷ ys)) at
-    ≡ some (listed_at at b)
+    ≡ Some (listed_at at b)
 unfolding total first listing_from
 step_from from [] b ys at e =
     let q : from ≡ at = omega arith in
@@ -54,11 +54,11 @@ step_from from (x ∷ xs) b ys at e =
     let q : eqb from at ≡ false = ne_eqb from at (λ z. omega arith) in
     rw q (step_from (from + size x) xs b ys at (omega arith))
 
-pub step_at : (xs : List Block) (b : Block) (ys : List Block) → block_at (xs ++ (b ∷ ys)) (total size xs) ≡ some (listed_at (total size xs) b)
+pub step_at : (xs : List Block) (b : Block) (ys : List Block) → block_at (xs ++ (b ∷ ys)) (total size xs) ≡ Some (listed_at (total size xs) b)
 step_at xs b ys = step_from 0 xs b ys (total size xs) (omega arith)
 
 -- the first block starts at 0, and the next one at a block's offset and size together
-pub step_first : (b : Block) (bs : List Block) → block_at (b ∷ bs) 0 ≡ some (listed_at 0 b)
+pub step_first : (b : Block) (bs : List Block) → block_at (b ∷ bs) 0 ≡ Some (listed_at 0 b)
 unfolding total
 step_first b bs = step_at [] b bs
 
@@ -67,18 +67,18 @@ unfolding total
 total_snoc xs b = rw total_append (omega arith)
 
 pub step_next : (xs : List Block) (b c : Block) (ys : List Block)
-    → block_at (xs ++ (b ∷ c ∷ ys)) (total size xs + size b) ≡ some (listed_at (total size xs + size b) c)
+    → block_at (xs ++ (b ∷ c ∷ ys)) (total size xs + size b) ≡ Some (listed_at (total size xs + size b) c)
 step_next xs b c ys = rw (total_snoc xs b, append_snoc) at (step_at (xs ++ (b ∷ [])) c ys)
 
 -- and from the last block's end on there is none
-step_past : (from : ℕ) (bs : List Block) (at : ℕ) → from + total size bs ≤ at → block_at_from from bs at ≡ none
+step_past : (from : ℕ) (bs : List Block) (at : ℕ) → from + total size bs ≤ at → block_at_from from bs at ≡ None
 unfolding total first listing_from
 step_past from [] at h = refl
 step_past from (b ∷ bs) at h =
     let q : eqb from at ≡ false = ne_eqb from at (λ z. omega arith) in
     rw q (step_past (from + size b) bs at (omega arith))
 
-pub step_end : (bs : List Block) (at : ℕ) → total size bs ≤ at → block_at bs at ≡ none
+pub step_end : (bs : List Block) (at : ℕ) → total size bs ≤ at → block_at bs at ≡ None
 step_end bs at h = step_past 0 bs at (omega arith)
 
 -- the blocks of a listing start no earlier than it, so no two start at one place
@@ -105,23 +105,23 @@ offsets_differ from (b ∷ bs) =
     and_both _ _ (ap not behind) (offsets_differ (from + size b) bs)
 
 -- a step gives a block exactly if the listing has it and it starts there
-pub step_exactly : (bs : List Block) (at : ℕ) (l : ListedBlock) → (block_at bs at ≡ some l) ↔ ((Memᴰ l (listing_from 0 bs)) × (l.offset ≡ at))
+pub step_exactly : (bs : List Block) (at : ℕ) (l : ListedBlock) → (block_at bs at ≡ Some l) ↔ ((Memᴰ l (listing_from 0 bs)) × (l.offset ≡ at))
 step_exactly bs at l = (there l, back)
   where
-    there : (l : ListedBlock) → block_at bs at ≡ some l → (Memᴰ l (listing_from 0 bs)) × (l.offset ≡ at)
+    there : (l : ListedBlock) → block_at bs at ≡ Some l → (Memᴰ l (listing_from 0 bs)) × (l.offset ≡ at)
     there l e = let r = first_some (λ l. eqb l.offset at) (listing_from 0 bs) l e in (r.0, eqb-true l.offset at r.1)
 
-    back : (Memᴰ l (listing_from 0 bs)) × (l.offset ≡ at) → block_at bs at ≡ some l
+    back : (Memᴰ l (listing_from 0 bs)) × (l.offset ≡ at) → block_at bs at ≡ Some l
     back r =
         let p : ListedBlock → Bool = λ l. eqb l.offset at in
         let f = first_found p (listing_from 0 bs) (member_any p (listing_from 0 bs) l r.0 (eq-eqb l.offset at r.1)) in
         let t = there f.0 f.1 in
         let e : f.0.offset ≡ l.offset = t.1 ∙ sym r.1 in
-        f.1 ∙ ap some (unrelated_same same_offset (listing_from 0 bs) (offsets_differ 0 bs) f.0 l t.0 r.0 (eq-eqb _ _ (sym e))
+        f.1 ∙ ap Some (unrelated_same same_offset (listing_from 0 bs) (offsets_differ 0 bs) f.0 l t.0 r.0 (eq-eqb _ _ (sym e))
         (eq-eqb _ _ e))
 
 -- and none exactly if no block of the listing starts there
-pub step_none_exactly : (bs : List Block) (at : ℕ) → (block_at bs at ≡ none)
+pub step_none_exactly : (bs : List Block) (at : ℕ) → (block_at bs at ≡ None)
     ↔ ((l : ListedBlock) → Memᴰ l (listing_from 0 bs) → l.offset ≡ at → ⊥)
 step_none_exactly bs at =
     let p : ListedBlock → Bool = λ l. eqb l.offset at in
@@ -131,8 +131,8 @@ step_none_exactly bs at =
 
 -- the steps from a place on, each from the end of the block that the last one gave, until there is none; at most `fuel` blocks
 unfoldable pub walk_on : Option ListedBlock → (ℕ → List ListedBlock) → List ListedBlock
-walk_on none rest = []
-walk_on (some l) rest = l ∷ rest (l.offset + l.size)
+walk_on None rest = []
+walk_on (Some l) rest = l ∷ rest (l.offset + l.size)
 
 unfoldable pub walk : ℕ → ℕ → List Block → List ListedBlock
 walk zero at bs = []

@@ -1,13 +1,13 @@
 -- Handles and the objects that they name (rules 4.3, 4.6 and 4.7): a handle names an object exactly if it has its serial and a range of at least one byte
 -- inside it. Where serials differ, an object is known by its serial alone: two objects with one serial cannot stand at two places, so they are the same, and
 -- the lookup finds the one that is named. A handle that names an object names it still when its range is made narrower.
+use Rattle.std.specs.Prelude.{Some, None}
 use mathlib.Core.Path.{◌≡◌, refl, ap, sym, ◌∙◌}
 use Prim.Native.Nat.{ℕ, ◌+◌, ◌≤◌}
 use native.Mathlib.Omega.{arith}
 use mathlib.Core.List.Memᴰ
 use mathlib.Core.List.{List, [], ◌∷◌, Memᴰ}
 use mathlib.Core.Bool.{Bool, true, false, cond, true≢false}
-use mathlib.Core.Option.{none, some}
 use mathlib.Core.Logic.{◌↔◌, ⊎_elim}
 use lib.Dec.{leb, eqb}
 use borrow.Author.Tests.{eqb-true, eq-eqb, leb-true, le-leb}
@@ -87,38 +87,38 @@ pub whole_names : (o : Handle) → 1 ≤ o.length → names o o ≡ true
 whole_names o l = (names_exactly o o).1 (record { serial = refl; some_byte = l; low = omega arith; high = omega arith })
 
 -- what the lookup finds is an object that the handle names
-pub lookup_named : (h : Handle) (s : List ℕ) (o : Handle) → lookup h s ≡ some o → (names h o ≡ true) × (Memᴰ o (objects_of s))
+pub lookup_named : (h : Handle) (s : List ℕ) (o : Handle) → lookup h s ≡ Some o → (names h o ≡ true) × (Memᴰ o (objects_of s))
 unfolding lookup
 lookup_named h s o e = let r = first_some (names h) (objects_of s) o e in (r.1, r.0)
 
 -- and where serials differ, it finds every such object, since two objects that one handle names have one serial
 pub lookup_exactly : (h : Handle) (s : List ℕ) (o : Handle) → serials_differ (objects_of s) ≡ true
-    → (lookup h s ≡ some o) ↔ ((names h o ≡ true) × (Memᴰ o (objects_of s)))
+    → (lookup h s ≡ Some o) ↔ ((names h o ≡ true) × (Memᴰ o (objects_of s)))
 unfolding lookup
 lookup_exactly h s o d = (lookup_named h s o, finds)
   where
-    finds : (names h o ≡ true) × (Memᴰ o (objects_of s)) → first (names h) (objects_of s) ≡ some o
+    finds : (names h o ≡ true) × (Memᴰ o (objects_of s)) → first (names h) (objects_of s) ≡ Some o
     finds r =
         let f = first_found (names h) (objects_of s) (member_any (names h) (objects_of s) o r.1 r.0) in
         let g = first_some (names h) (objects_of s) f.0 f.1 in
         f.1
-        ∙ ap some (same_serial (objects_of s) d f.0 o g.0 r.1
+        ∙ ap Some (same_serial (objects_of s) d f.0 o g.0 r.1
         (sym ((names_exactly h f.0).0 g.1).serial ∙ ((names_exactly h o).0 r.0).serial))
 
-pub lookup_none : (h : Handle) (s : List ℕ) → lookup h s ≡ none → (o : Handle) → Memᴰ o (objects_of s) → names h o ≡ true → ⊥
+pub lookup_none : (h : Handle) (s : List ℕ) → lookup h s ≡ None → (o : Handle) → Memᴰ o (objects_of s) → names h o ≡ true → ⊥
 unfolding lookup
 lookup_none h s e o m n = true≢false (sym (member_any (names h) (objects_of s) o m n) ∙ (first_none (names h) (objects_of s)).0 e)
 
 -- the object has the handle's serial
-pub found_serial : (h : Handle) (s : List ℕ) (o : Handle) → lookup h s ≡ some o → o.serial ≡ h.serial
+pub found_serial : (h : Handle) (s : List ℕ) (o : Handle) → lookup h s ≡ Some o → o.serial ≡ h.serial
 found_serial h s o e = sym ((names_exactly h o).0 (lookup_named h s o e).0).serial
 
 -- reallocate's lookup finds a handle exactly if it is one of the objects
-pub lookup_whole_exactly : (h : Handle) (s : List ℕ) (o : Handle) → (lookup_whole h s ≡ some o) ↔ ((h ≡ o) × (Memᴰ h (objects_of s)))
+pub lookup_whole_exactly : (h : Handle) (s : List ℕ) (o : Handle) → (lookup_whole h s ≡ Some o) ↔ ((h ≡ o) × (Memᴰ h (objects_of s)))
 unfolding lookup_whole
 lookup_whole_exactly h s = search_some (whole h) h (whole_exactly h) (objects_of s)
 
-pub lookup_whole_none : (h : Handle) (s : List ℕ) → (lookup_whole h s ≡ none) ↔ (Memᴰ h (objects_of s) → ⊥)
+pub lookup_whole_none : (h : Handle) (s : List ℕ) → (lookup_whole h s ≡ None) ↔ (Memᴰ h (objects_of s) → ⊥)
 unfolding lookup_whole
 lookup_whole_none h s = search_none (whole h) h (whole_exactly h) (objects_of s)
 

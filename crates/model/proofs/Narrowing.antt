@@ -1,11 +1,11 @@
 -- A handle that was made narrower (rules 4.7 and 4.8): it names the object that the wider one names, and claim, release and can release do through it what they
 -- do through the whole handle. Lines and changes of these calls read the handle through the lookup alone.
+use Rattle.std.specs.Prelude.{Some}
 use mathlib.Core.Path.{◌≡◌, sym, ◌∙◌}
 use Prim.Native.Nat.{ℕ}
 use native.Mathlib.Omega.{arith}
 use mathlib.Core.List.{List, Memᴰ}
 use mathlib.Core.Bool.{true}
-use mathlib.Core.Option.{some}
 use Rattle.accounts.specs.declared.Accounts.{Accounts}
 use Rattle.model.specs.Objects.{objects_of, lookup}
 use Rattle.model.specs.Consistent.{accounted}
@@ -25,19 +25,19 @@ narrower h g o m n =
 
 module _ (s : List ℕ) (k : Accounts) (c : accounted s k ≡ true) where
   -- a live object is found from its own handle and from each that is narrower
-  pub object_found : (h o : Handle) → Narrowed h o → Memᴰ o (objects_of s) → lookup h s ≡ some o
+  pub object_found : (h o : Handle) → Narrowed h o → Memᴰ o (objects_of s) → lookup h s ≡ Some o
   object_found h o n m = (lookup_exactly h s o (accounted_differ s k c)).1 ((names_exactly h o).1 n, m)
 
-  pub own_found : (o : Handle) → Memᴰ o (objects_of s) → lookup o s ≡ some o
+  pub own_found : (o : Handle) → Memᴰ o (objects_of s) → lookup o s ≡ Some o
   own_found o m = (lookup_exactly o s o (accounted_differ s k c)).1 (whole_names o (accounted_byte s k c o m), m)
 
   -- the object that a handle names is named by each handle that is narrower
-  pub narrowed_found : (h g o : Handle) → Narrowed h g → lookup g s ≡ some o → lookup h s ≡ some o
+  pub narrowed_found : (h g o : Handle) → Narrowed h g → lookup g s ≡ Some o → lookup h s ≡ Some o
   narrowed_found h g o n e =
       let r = lookup_named g s o e in
       object_found h o (narrower h g o n ((names_exactly g o).0 r.0)) r.1
 
-  module _ (h o : Handle) (e : lookup h s ≡ some o) where
+  module _ (h o : Handle) (e : lookup h s ≡ Some o) where
     -- the object's own handle is looked up with the same result
     same_found : lookup h s ≡ lookup o s
     same_found = e ∙ sym (own_found o (lookup_named h s o e).1)

@@ -1,12 +1,12 @@
 -- Permissions (rules, section 15): no call but the one that clears them changes a quota's permissions, and that one sets none.
 -- A refused call changes nothing; payments and changes of records leave the permissions, and a bit that is left after clearing was there.
+use Rattle.std.specs.Prelude.{Option, Some, None}
 use Prim.Native.Nat.{ℕ, zero, suc, ◌+◌, ◌*◌, ◌/◌, ◌%◌, ◌<◌}
 use native.Mathlib.Omega.{arith}
 use mathlib.Core.Path.{◌≡◌, refl, ap, sym, ◌∙◌}
 use mathlib.Core.List.{List, [], ◌∷◌, map}
 use mathlib.Core.Bool.{Bool, true, false, cond, ◌&&◌, true≢false, false≢true}
 use mathlib.Core.Logic.{◌⊎◌, inl, inr, ⊎_elim}
-use mathlib.Core.Option.{Option, none, some}
 use lib.ListN.{length, get_or, set, get_or-map}
 use lib.Seq.{get_or-set_same}
 use lib.Dec.{eqb}
@@ -272,8 +272,8 @@ balanced_after os hs from (x ∷ xs) (suc i) p =
 module _ (q n : ℕ) (k : Accounts) where
   same_parsed : (b : Option (List Block)) → accounted_parsed b (put_quota q (without n (quota_at q k)) k) ≡ accounted_parsed b k
   unfolding accounted_parsed accounted_blocks
-  same_parsed none = refl
-  same_parsed (some bs) = rw (balanced_after (objects bs) k.holds 0 k.quotas q (left_permissions q n k))
+  same_parsed None = refl
+  same_parsed (Some bs) = rw (balanced_after (objects bs) k.holds 0 k.quotas q (left_permissions q n k))
 
   pub clear_accounted : (s : List ℕ) → accounted s (clear_permissions q n k) ≡ accounted s k
   unfolding clear_permissions accounted

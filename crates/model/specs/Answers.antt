@@ -1,23 +1,12 @@
 -- What a call answers: for each answer type, the refusal's number and the values of each of its cases (rules 7.1, 7.6 and 7.7), and the answer of a call
 -- that has given values.
-use Rattle.std.specs.Prelude.{ℕ, ◌-◌, List, [], ◌∷◌, cond, get_or, eqb}
-use Rattle.std.proofs.Math.Option.{Option, none, some}
+use Rattle.std.specs.Prelude.{ℕ, ◌-◌, List, [], ◌∷◌, cond, get_or, eqb, Option, Some, None, Result, Ok, Err}
 use Rattle.model.specs.declared.Handle.{Handle}
 use Rattle.model.specs.declared.Range.{Range}
 use Rattle.model.specs.declared.ListedBlock.{ListedBlock}
 use Rattle.model.specs.declared.Refusal.{Refusal}
 use Rattle.model.specs.declared.Refusal.TheVariants.{HeapLength, Inconsistent, QuotaNumber, ObjectLength, NoSuchObject, NotHeld, CountLimit}
 use Rattle.model.specs.declared.Refusal.TheVariants.{QuotaExceeded, HoldsExhausted, SerialsExhausted, NoSpace, NotPermitted}
-use Rattle.model.specs.declared.Verdict.{Verdict}
-use Rattle.model.specs.declared.Verdict.TheVariants.{Accepted, Refused as NotAccepted}
-use Rattle.model.specs.declared.HandleAnswer.{HandleAnswer}
-use Rattle.model.specs.declared.HandleAnswer.TheVariants.{Given, Refused as NotGiven}
-use Rattle.model.specs.declared.AmountAnswer.{AmountAnswer}
-use Rattle.model.specs.declared.AmountAnswer.TheVariants.{Amount, Refused as NoAmount}
-use Rattle.model.specs.declared.RangeAnswer.{RangeAnswer}
-use Rattle.model.specs.declared.RangeAnswer.TheVariants.{Lent, Refused as NotLent}
-use Rattle.model.specs.declared.BlockAnswer.{BlockAnswer}
-use Rattle.model.specs.declared.BlockAnswer.TheVariants.{Listed, NoBlock, Refused as NotListed}
 use Rattle.model.specs.declared.Answer.{Answer}
 use Rattle.model.specs.declared.Answer.TheVariants.{Verdict as OfVerdict, Handle as OfHandle, Amount as OfAmount, Range as OfRange, Block as OfBlock}
 use Rattle.model.specs.declared.Call.{Call}
@@ -55,45 +44,45 @@ zero_range = record { start = 0; end = 0 }
 
 -- rule 7.6: a refused call hands back zeros and an empty range
 abbrev pub refused : ℕ → Values
-refused n = record { refusal = n; handle = zero_handle; amount = 0; range = zero_range; block = none }
+refused n = record { refusal = n; handle = zero_handle; amount = 0; range = zero_range; block = None }
 
 -- rule 7.7: an accepted call that gives nothing else
 abbrev pub accepted : Values
-accepted = record { refusal = 0; handle = zero_handle; amount = 0; range = zero_range; block = none }
+accepted = record { refusal = 0; handle = zero_handle; amount = 0; range = zero_range; block = None }
 
 abbrev pub given : Handle → Values
-given h = record { refusal = 0; handle = h; amount = 0; range = zero_range; block = none }
+given h = record { refusal = 0; handle = h; amount = 0; range = zero_range; block = None }
 
 abbrev pub amount_of : ℕ → Values
-amount_of n = record { refusal = 0; handle = zero_handle; amount = n; range = zero_range; block = none }
+amount_of n = record { refusal = 0; handle = zero_handle; amount = n; range = zero_range; block = None }
 
 abbrev pub lent : Range → Values
-lent r = record { refusal = 0; handle = zero_handle; amount = 0; range = r; block = none }
+lent r = record { refusal = 0; handle = zero_handle; amount = 0; range = r; block = None }
 
 abbrev pub listed : Option ListedBlock → Values
 listed b = record { refusal = 0; handle = zero_handle; amount = 0; range = zero_range; block = b }
 
 -- each answer type, case by case
-unfoldable pub verdict_values : Verdict → Values
-verdict_values Accepted = accepted
-verdict_values (NotAccepted r) = refused (refusal_number r)
+unfoldable pub verdict_values : Result (Unit {0}) Refusal → Values
+verdict_values (Ok tt) = accepted
+verdict_values (Err r) = refused (refusal_number r)
 
-unfoldable pub handle_values : HandleAnswer → Values
-handle_values (Given h) = given h
-handle_values (NotGiven r) = refused (refusal_number r)
+unfoldable pub handle_values : Result Handle Refusal → Values
+handle_values (Ok h) = given h
+handle_values (Err r) = refused (refusal_number r)
 
-unfoldable pub amount_values : AmountAnswer → Values
-amount_values (Amount n) = amount_of n
-amount_values (NoAmount r) = refused (refusal_number r)
+unfoldable pub amount_values : Result ℕ Refusal → Values
+amount_values (Ok n) = amount_of n
+amount_values (Err r) = refused (refusal_number r)
 
-unfoldable pub range_values : RangeAnswer → Values
-range_values (Lent r) = lent r
-range_values (NotLent r) = refused (refusal_number r)
+unfoldable pub range_values : Result Range Refusal → Values
+range_values (Ok r) = lent r
+range_values (Err r) = refused (refusal_number r)
 
-unfoldable pub block_values : BlockAnswer → Values
-block_values (Listed b) = listed (some b)
-block_values NoBlock = listed none
-block_values (NotListed r) = refused (refusal_number r)
+unfoldable pub block_values : Result (Option ListedBlock) Refusal → Values
+block_values (Ok (Some b)) = listed (Some b)
+block_values (Ok None) = listed None
+block_values (Err r) = refused (refusal_number r)
 
 -- any answer; answers of two types can have the same values, and the call tells which one it is (`answer_of`)
 unfoldable pub answer_values : Answer → Values
@@ -117,24 +106,24 @@ abbrev pub answer_from : {A : Type 0} → A → (Refusal → A) → ℕ → A
 answer_from a refuse n = cond (eqb n 0) a (refuse (refusal_at n))
 
 -- the answer with these values, in each answer type
-abbrev pub verdict_from : Values → Verdict
-verdict_from v = answer_from Accepted NotAccepted v.refusal
+abbrev pub verdict_from : Values → Result (Unit {0}) Refusal
+verdict_from v = answer_from (Ok tt) Err v.refusal
 
-abbrev pub handle_from : Values → HandleAnswer
-handle_from v = answer_from (Given v.handle) NotGiven v.refusal
+abbrev pub handle_from : Values → Result Handle Refusal
+handle_from v = answer_from (Ok v.handle) Err v.refusal
 
-abbrev pub amount_from : Values → AmountAnswer
-amount_from v = answer_from (Amount v.amount) NoAmount v.refusal
+abbrev pub amount_from : Values → Result ℕ Refusal
+amount_from v = answer_from (Ok v.amount) Err v.refusal
 
-abbrev pub range_from : Values → RangeAnswer
-range_from v = answer_from (Lent v.range) NotLent v.refusal
+abbrev pub range_from : Values → Result Range Refusal
+range_from v = answer_from (Ok v.range) Err v.refusal
 
-abbrev pub listed_from : Option ListedBlock → BlockAnswer
-listed_from none = NoBlock
-listed_from (some b) = Listed b
+abbrev pub listed_from : Option ListedBlock → Result (Option ListedBlock) Refusal
+listed_from None = Ok None
+listed_from (Some b) = Ok (Some b)
 
-abbrev pub block_from : Values → BlockAnswer
-block_from v = answer_from (listed_from v.block) NotListed v.refusal
+abbrev pub block_from : Values → Result (Option ListedBlock) Refusal
+block_from v = answer_from (listed_from v.block) Err v.refusal
 
 -- the answer of a call with these values: each call has one answer type
 unfoldable pub answer_of : Call → Values → Answer

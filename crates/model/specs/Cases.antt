@@ -1,6 +1,5 @@
 -- What calls answer and leave: cases that the run M does not reach (rules, section 8; rules 12.3 to 12.7 among them). How they are run is `Tables`.
-use Rattle.std.specs.Prelude.{ℕ, ◌-◌, List, [], ◌∷◌, replicate, take}
-use Rattle.std.proofs.Math.Option.{none, some}
+use Rattle.std.specs.Prelude.{ℕ, ◌-◌, List, [], ◌∷◌, replicate, take, Some, None}
 use Rattle.accounts.specs.Accounts.{QUOTAS, plain, zero_hold, with_holds}
 use Rattle.rounding.specs.Rounding.{unit}
 use Rattle.model.specs.Answers.{Values, refused, accepted, given, amount_of, lent, listed}
@@ -19,7 +18,7 @@ opened_heap H g₀ g₁ =
 
 -- a block of the listing
 unfoldable pub block : ℕ → ℕ → ℕ → Values
-block at size serial = listed (some (record { offset = at; size = size; serial = serial }))
+block at size serial = listed (Some (record { offset = at; size = size; serial = serial }))
 
 -- both sides of each row of the rounding table, of the product and of line 4
 unfoldable pub lengths : List Case
@@ -226,7 +225,7 @@ unfoldable pub walks : List Case
 walks =
     case with_gaps (ListBlock 0 ∷ ListBlock 16 ∷ ListBlock 32 ∷ ListBlock 64 ∷ ListBlock 80 ∷ ListBlock 8 ∷ ListBlock 40 ∷ ListBlock 128
     ∷ ListBlock 136 ∷ [])
-    (block 0 16 0 ∷ block 16 16 2 ∷ block 32 32 0 ∷ block 64 16 4 ∷ block 80 48 0 ∷ listed none ∷ listed none ∷ listed none ∷ listed none ∷ [])
+    (block 0 16 0 ∷ block 16 16 2 ∷ block 32 32 0 ∷ block 64 16 4 ∷ block 80 48 0 ∷ listed None ∷ listed None ∷ listed None ∷ listed None ∷ [])
     0 (parts (head 2 0 0 ∷ zeros 8 ∷ head 2 2 2 ∷ zeros 8 ∷ head 4 2 0 ∷ zeros 24 ∷ head 2 4 4 ∷ zeros 8 ∷ head 6 2 0 ∷ zeros 40 ∷ []))
     (accounts_of (quota 1000 968 ∷ quota 1000 1000 ∷ []) 4 (zero_hold ∷ hold 2 0 1 ∷ zero_hold ∷ hold 4 0 1 ∷ []))
     ∷ []

@@ -1,7 +1,6 @@
 -- When heap and accounts are consistent (rules, section 5): one test for each rule, in their order. `consistent` is all of them,
 -- `accounted` 5.1 to 5.8: heap and accounts account for each other, whatever the table of units and the settings are.
-use Rattle.std.specs.Prelude.{ℕ, suc, ◌+◌, ◌%◌, List, [], ◌∷◌, Bool, true, false, not, cond, ◌&&◌, ◌||◌, leb, ltb, eqb}
-use Rattle.std.proofs.Math.Option.{Option, none, some}
+use Rattle.std.specs.Prelude.{ℕ, suc, ◌+◌, ◌%◌, List, [], ◌∷◌, Bool, true, false, not, cond, ◌&&◌, ◌||◌, leb, ltb, eqb, Option, Some, None}
 use Rattle.accounts.specs.declared.Quota.{Quota}
 use Rattle.accounts.specs.declared.Hold.{Hold}
 use Rattle.accounts.specs.declared.Accounts.{Accounts}
@@ -93,8 +92,8 @@ accounted_blocks bs k =
     && balanced_from os hs 0 k.quotas)))))
 
 unfoldable pub accounted_parsed : Option (List Block) → Accounts → Bool
-accounted_parsed none k = false
-accounted_parsed (some bs) k = accounted_blocks bs k
+accounted_parsed None k = false
+accounted_parsed (Some bs) k = accounted_blocks bs k
 
 unfoldable pub accounted : List ℕ → Accounts → Bool
 accounted s k = accounted_parsed (parse s) k

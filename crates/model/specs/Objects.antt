@@ -1,6 +1,5 @@
 -- The objects of a heap, and the handles that name them (rules, section 4).
-use Rattle.std.specs.Prelude.{ℕ, ◌+◌, List, [], ◌∷◌, Bool, cond, ◌&&◌, length, leb, eqb}
-use Rattle.std.proofs.Math.Option.{Option}
+use Rattle.std.specs.Prelude.{ℕ, ◌+◌, List, [], ◌∷◌, Bool, cond, ◌&&◌, length, leb, eqb, Option}
 use Rattle.layout.specs.Blocks.{Block, size, live, parse}
 use Rattle.lists.specs.Lists.{first, or_else}
 use Rattle.model.specs.Answers.{zero_handle}

@@ -1,6 +1,5 @@
 -- What heaps with quarantine answer and leave, and which of them are consistent (rules, section 22). How the cases are run is `Tables`.
-use Rattle.std.specs.Prelude.{ℕ, ◌-◌, List, [], ◌∷◌, replicate, take}
-use Rattle.std.proofs.Math.Option.{some}
+use Rattle.std.specs.Prelude.{ℕ, ◌-◌, List, [], ◌∷◌, replicate, take, Some}
 use Rattle.accounts.specs.declared.settings.Kind.TheVariants.{Quarantine}
 use Rattle.accounts.specs.declared.settings.Edition.TheVariants.{First}
 use Rattle.accounts.specs.declared.Accounts.{Accounts}
@@ -38,7 +37,7 @@ waiting =
     (Allocate 0 8 ∷ Allocate 0 8 ∷ Allocate 0 8 ∷ Allocate 0 8 ∷ Release 0 (handle 8 8 1) ∷ Release 0 (handle 56 8 4) ∷ Sweep
     ∷ Release 0 (handle 24 8 2) ∷ FreeAll 0 ∷ Allocate 0 24 ∷ ListBlock 16 ∷ Sweep ∷ Sweep ∷ Allocate 0 24 ∷ [])
     (given (handle 8 8 1) ∷ given (handle 24 8 2) ∷ given (handle 40 8 3) ∷ given (handle 56 8 4) ∷ amount_of 16 ∷ amount_of 16 ∷ amount_of 32
-    ∷ amount_of 16 ∷ amount_of 16 ∷ refused 11 ∷ listed (some (record { offset = 16; size = 16; serial = 4294967295 }))
+    ∷ amount_of 16 ∷ amount_of 16 ∷ refused 11 ∷ listed (Some (record { offset = 16; size = 16; serial = 4294967295 }))
     ∷ amount_of 32 ∷ amount_of 0 ∷ given (handle 8 24 5) ∷ [])
     0 (parts (head 4 0 5 ∷ zeros 24 ∷ head 4 4 0 ∷ zeros 24 ∷ [])) (with_kind 1 (accounts_of (quota 1000 968 ∷ quota 100 100 ∷ []) 5 (hold 5 0 1 ∷ [])))
     -- one that is still held does not wait; reallocate leaves its old block waiting

@@ -1,7 +1,6 @@
 -- Refusals (rules, section 7): each line of rule 7.1; the table of section 8, which says which lines a call has; and a call's
 -- refusal over both.
-use Rattle.std.specs.Prelude.{ℕ, List, [], ◌∷◌, map, Bool, true, false, not, cond, ◌&&◌, ◌||◌, length, leb, ltb, eqb}
-use Rattle.std.proofs.Math.Option.{Option}
+use Rattle.std.specs.Prelude.{ℕ, List, [], ◌∷◌, map, Bool, true, false, not, cond, ◌&&◌, ◌||◌, length, leb, ltb, eqb, Option}
 use Rattle.accounts.specs.declared.Accounts.{Accounts}
 use Rattle.accounts.specs.Accounts.{QUOTAS, ALLOCATE, CLAIM, FREE_ALL, used, remaining, permits}
 use Rattle.rounding.specs.Rounding.{object_length, alignment}

@@ -1,6 +1,6 @@
 -- Where a new object goes, and what becomes of blocks (rules 8.5 to 8.8 and 8.18 to 8.21).
-use Rattle.std.specs.Prelude.{ℕ, zero, suc, ◌+◌, ◌-◌, ◌/◌, List, [], ◌∷◌, ◌++◌, Bool, true, not, cond, ◌&&◌, ◌||◌, length, take, drop, replicate, leb, eqb}
-use Rattle.std.proofs.Math.Option.{Option, none, some}
+use Rattle.std.specs.Prelude.{ℕ, zero, suc, ◌+◌, ◌-◌, ◌/◌, List, [], ◌∷◌, ◌++◌, Bool, true, not, cond, ◌&&◌, ◌||◌}
+use Rattle.std.specs.Prelude.{length, take, drop, replicate, leb, eqb, Option, Some, None}
 use Rattle.accounts.specs.declared.Hold.{Hold}
 use Rattle.layout.specs.Blocks.{Block, size, occupied, QUARANTINED, quarantined, live}
 use Rattle.model.specs.Consistent.{held}
@@ -17,10 +17,10 @@ suitable H bs n b = leb 8 b && (leb (b + n) H && outside_occupied (b - 8) (b + n
 
 -- the first of from, from + step, .. that passes a test, of so many candidates
 unfoldable pub first_candidate : (ℕ → Bool) → ℕ → ℕ → ℕ → Option ℕ
-first_candidate p zero step from = none
+first_candidate p zero step from = None
 first_candidate p (suc count) step from =
     let later = first_candidate p count step (from + step) in
-    cond (p from) (some from) later
+    cond (p from) (Some from) later
 
 -- rule 8.6: the least suitable base, of all multiples of the alignment up to H
 unfoldable pub lowest_base : ℕ → List Block → ℕ → ℕ → Option ℕ

@@ -88,50 +88,14 @@ pub enum Row {
     Exchange,
 }
 
-// The answer of a call that gives nothing but its verdict: open, can release, check.
-#[derive(Clone, Copy)]
-pub enum Verdict {
-    Accepted,
-    Refused(Refusal),
-}
-
-// The answer of allocate, allocate array and reallocate.
-#[derive(Clone, Copy)]
-pub enum HandleAnswer {
-    Given(Handle),
-    Refused(Refusal),
-}
-
-// The answer of claim (the object's length), release and free-all (quota given back), sweep (bytes of blocks) and remaining.
-#[derive(Clone, Copy)]
-pub enum AmountAnswer {
-    Amount(u32),
-    Refused(Refusal),
-}
-
-// The answer of lend.
-#[derive(Clone, Copy)]
-pub enum RangeAnswer {
-    Lent(Range),
-    Refused(Refusal),
-}
-
-// The answer of a step of the listing.
-#[derive(Clone, Copy)]
-pub enum BlockAnswer {
-    Listed(ListedBlock),
-    NoBlock,
-    Refused(Refusal),
-}
-
 // The answer of any call of a history.
 #[derive(Clone, Copy)]
 pub enum Answer {
-    Verdict(Verdict),
-    Handle(HandleAnswer),
-    Amount(AmountAnswer),
-    Range(RangeAnswer),
-    Block(BlockAnswer),
+    Verdict(Result<(), Refusal>),
+    Handle(Result<Handle, Refusal>),
+    Amount(Result<u32, Refusal>),
+    Range(Result<Range, Refusal>),
+    Block(Result<Option<ListedBlock>, Refusal>),
 }
 
 // A call of a history, with its arguments.

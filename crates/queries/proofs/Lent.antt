@@ -1,8 +1,8 @@
 -- What lend and the write of a byte give, from what the check and the lookup answered. The block that the lookup found is one of the heap's, so its
 -- object, and the handle's range in it, lies in the heap.
+use Rattle.std.specs.Prelude.{Some, None, Result, Ok, Err}
 use mathlib.Core.Path.{◌≡◌, ap, ◌∙◌}
 use mathlib.Core.List.{List, [], ◌∷◌}
-use mathlib.Core.Option.{some}
 use Prim.Native.Nat.{ℕ, ◌+◌, ◌≤◌, ◌<◌}
 use native.Mathlib.Omega.{arith}
 use borrow.Author.Tests.{lt-ltb, le-ltb}
@@ -17,11 +17,8 @@ use Rattle.model.specs.Calls.{Outcome, unchanged, check, lend}
 use Rattle.model.specs.declared.Handle.{Handle}
 use Rattle.model.specs.declared.Refusal.{Refusal}
 use Rattle.model.specs.declared.Refusal.TheVariants.{NoSuchObject}
-use Rattle.model.specs.declared.Verdict.{Verdict}
-use Rattle.model.specs.declared.Verdict.TheVariants.{Accepted, Refused}
 use Rattle.model.proofs.Consistent.{accounted_cut}
 use Rattle.lookup.specs.declared.Met.{Met}
-use Rattle.lookup.specs.declared.Lookup.TheVariants.{Found, Missing}
 use Rattle.lookup.specs.Walk.{object_met, find_object}
 use Rattle.lookup.proofs.Parsed.{total_parsed, Stands}
 use Rattle.lookup.proofs.Reached.{found_narrowed}
@@ -31,7 +28,7 @@ use Rattle.results.proofs.Lookups.{line_5_refuses, line_5_passes}
 use Rattle.results.proofs.Lines.{check_refuses, check_accepts, check_accounted, refused_is, accepted_is}
 
 -- a block of the heap has its header, and ends in the heap
-pub stands_inside : (s : List ℕ) (bs : List Block) → parse s ≡ some bs → (m : Met) → Stands bs m → (8 ≤ m.size) × (m.at + m.size ≤ length s)
+pub stands_inside : (s : List ℕ) (bs : List Block) → parse s ≡ Some bs → (m : Met) → Stands bs m → (8 ≤ m.size) × (m.at + m.size ≤ length s)
 unfolding total_size
 stands_inside s bs e m w =
     let p = w.place in
@@ -41,22 +38,22 @@ stands_inside s bs e m w =
     let l = total_parsed s bs e in
     (omega arith, omega arith)
 
-module _ (unit : ℕ → ℕ) (s : List ℕ) (k : Accounts) (h : Handle) (v : Verdict) (told : verdict_values v ≡ (check unit s k).values) where
+module _ (unit : ℕ → ℕ) (s : List ℕ) (k : Accounts) (h : Handle) (v : Result (Unit {0}) Refusal) (told : verdict_values v ≡ (check unit s k).values) where
   -- what the check refuses, lend refuses
-  pub lend_refused : (r : Refusal) → v ≡ Refused r → first_refusal (lend_lines unit s k h) ≡ refusal_number r
+  pub lend_refused : (r : Refusal) → v ≡ Err r → first_refusal (lend_lines unit s k h) ≡ refusal_number r
   unfolding row_lines
   lend_refused r e = check_refuses unit s k v told (line_5 (lookup h s) ∷ []) r e
 
-  module _ (e : v ≡ Accepted) where
-    cut : parse s ≡ some (blocks_of s)
+  module _ (e : v ≡ Ok tt) where
+    cut : parse s ≡ Some (blocks_of s)
     cut = (accounted_cut s k (check_accounted unit s k v told e).1).0
 
     -- where the lookup finds none, it is refused
-    pub lend_missing : find_object h s ≡ Missing → first_refusal (lend_lines unit s k h) ≡ refusal_number NoSuchObject
+    pub lend_missing : find_object h s ≡ None → first_refusal (lend_lines unit s k h) ≡ refusal_number NoSuchObject
     unfolding row_lines
     lend_missing q = check_accepts unit s k v told (line_5 (lookup h s) ∷ []) e ∙ line_5_refuses (lookup h s) [] (lookup_missing s (blocks_of s) cut h q)
 
-    module _ (m : Met) (q : find_object h s ≡ Found m) where
+    module _ (m : Met) (q : find_object h s ≡ Some m) where
       named : Named s (blocks_of s) h m
       named = lookup_found s (blocks_of s) cut h m q
 

@@ -2,5 +2,4 @@
 pub mod Rows
 pub mod Listed
 pub mod Lent
-pub mod Found
 pub mod Claimable

@@ -1,8 +1,8 @@
 -- The listing and its walker on a small heap, computed.
+use Rattle.std.specs.Prelude.{Some, None, Ok}
 use Prim.Native.Nat.{ℕ, ◌-◌}
 use mathlib.Core.Path.{◌≡◌, refl}
 use mathlib.Core.List.{List, [], ◌∷◌, ◌++◌}
-use mathlib.Core.Option.{none, some}
 use lib.ListN.{replicate}
 use Rattle.rounding.specs.Rounding.{unit}
 use Rattle.accounts.specs.declared.Accounts.{Accounts}
@@ -11,7 +11,6 @@ use Rattle.model.specs.Answers.{refused}
 use Rattle.model.specs.Calls.{unchanged}
 use Rattle.model.specs.Marked.{handle}
 use Rattle.model.specs.declared.ListedBlock.{ListedBlock}
-use Rattle.model.specs.declared.BlockAnswer.TheVariants.{Listed, NoBlock}
 use Rattle.model.proofs.Computing.{computing}
 use Rattle.layout.specs.Blocks.{start_at}
 use Rattle.lookup.specs.Walk.{met_at, met_from, met}
@@ -38,7 +37,7 @@ object = record { offset = 0; size = 24; serial = 1 }
 pub free : ListedBlock
 free = record { offset = 24; size = 40; serial = 0 }
 
-pub found_rows : (find_block 0 heap ≡ Listed object) × (find_block 24 heap ≡ Listed free) × (find_block 8 heap ≡ NoBlock) × (find_block 64 heap ≡ NoBlock)
+pub found_rows : (find_block 0 heap ≡ Ok (Some object)) × (find_block 24 heap ≡ Ok (Some free)) × (find_block 8 heap ≡ Ok None) × (find_block 64 heap ≡ Ok None)
 unfolding computing find_block met met_from met_at start_at heap object free
 found_rows = (refl, refl, refl, refl)
 
@@ -48,7 +47,7 @@ pub place_rows : (place_after unit heap (accounts 76) 0 ≡ 24) × (place_after 
 unfolding computing place_after unit heap accounts
 place_rows = (refl, refl, refl, refl, refl)
 
-pub step_rows : (in_steps 1 (object ∷ free ∷ []) ≡ some object ∷ []) × (in_steps 4 (object ∷ free ∷ []) ≡ some object ∷ some free ∷ none ∷ none ∷ [])
+pub step_rows : (in_steps 1 (object ∷ free ∷ []) ≡ Some object ∷ []) × (in_steps 4 (object ∷ free ∷ []) ≡ Some object ∷ Some free ∷ None ∷ None ∷ [])
 unfolding in_steps
 step_rows = (refl, refl)
 

@@ -1,7 +1,8 @@
 -- An object's bytes through a handle: the write of one byte, and the part of the heap that lend gives, after model's `lend`.
-use Rattle.std.specs.Prelude.{ℕ, ◌+◌, ◌-◌, ◌≤◌, ◌≡◌, List, cond, length, set, take, drop, ltb}
+use Rattle.model.specs.declared.Refusal.{Refusal}
+use Rattle.std.specs.Prelude.{ℕ, ◌+◌, ◌-◌, ◌≤◌, ◌≡◌, List, cond, length, set, take, drop, ltb, Result, Ok}
 use Rattle.accounts.specs.declared.Accounts.{Accounts}
-use Rattle.model.specs.Answers.{accepted}
+use Rattle.model.specs.Answers.{accepted, verdict_values}
 use Rattle.model.specs.Refusals.{first_refusal, lend_lines}
 use Rattle.model.specs.Calls.{Outcome, unless, unchanged, lend}
 use Rattle.model.specs.declared.Handle.{Handle}
@@ -26,6 +27,10 @@ lent_range unit s k h = (lend unit s k h).values.range
 
 abbrev pub lent_bytes : (ℕ → ℕ) → List ℕ → Accounts → Handle → List ℕ
 lent_bytes unit s k h = take ((lent_range unit s k h).end - (lent_range unit s k h).start) (drop (lent_range unit s k h).start s)
+
+-- a verdict on a handle with lend's refusal; where it accepts, the handle's range lies in the heap
+abbrev pub IsLent : (ℕ → ℕ) → List ℕ → Accounts → Handle → Result (Unit {0}) Refusal → Type 0
+IsLent unit s k h v = (first_refusal (lend_lines unit s k h) ≡ (verdict_values v).refusal) × (v ≡ Ok tt → h.base + h.length ≤ length s)
 
 -- these are what lend gives, and the range lies in the heap
 pub record Spans (unit : ℕ → ℕ) (s : List ℕ) (k : Accounts) (h : Handle) (refusal start end : ℕ) : Type 0 where

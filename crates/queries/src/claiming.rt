@@ -7,61 +7,68 @@ ghost use Rattle.model.specs.Answers.{verdict_values};
 ghost use Rattle.model.specs.Refusals.{greatest_length};
 ghost use Rattle.results.specs.Results.{outcome};
 ghost use Rattle.holding.specs.Claims.{claim_again, claim_first};
-ghost use Rattle.survey.specs.Survey.{place_of};
 ghost use Rattle.words.specs.Words.{edition_of, accounts_of};
 ghost use Rattle.queries.specs.Claimable.{can_claim, refusal_in};
 
-use accounts::{CLAIM, HOLDS, QUOTAS};
-use model::{GREATEST_COUNT, Handle, Refusal, Verdict};
+use accounts::{CLAIM, QUOTAS};
+use model::{GREATEST_COUNT, Handle, Refusal};
 use words::WORDS;
 
 // Whether the record at a place can count once more.
-fn can_count(words: &[u32; WORDS], at: usize) -> Verdict
+fn can_count(words: &[u32; WORDS], at: usize) -> Result<(), Refusal>
     ensures { (n : ℕ) → verdict_values result ≡ refusal_in (claim_again at n (accounts_of words.now)) }
 {
     let hold = words::hold_at(words, at);
     if hold.count == GREATEST_COUNT {
-        return Verdict::Refused(Refusal::CountLimit);
+        return Err(Refusal::CountLimit);
     }
-    Verdict::Accepted
+    Ok(())
 }
 
 // Whether the quota can pay for an object of this length, and a record is unused.
-fn can_pay(words: &[u32; WORDS], quota: u32, low: usize, length: u32) -> Verdict
-    requires { (length ≤ greatest_length) × (place_of low ≡ lowest_unused (accounts_of words.now)) }
+fn can_pay(
+    words: &[u32; WORDS],
+    quota: u32,
+    unused: Option<usize>,
+    length: u32,
+) -> Result<(), Refusal>
+    requires { (length ≤ greatest_length) × (unused ≡ lowest_unused (accounts_of words.now)) }
     ensures { (h : Hold) → verdict_values result ≡ refusal_in (claim_first quota h length (accounts_of words.now)) }
 {
     let charge = length + 8;
     if words::remaining(words, quota) < charge {
-        return Verdict::Refused(Refusal::QuotaExceeded);
+        return Err(Refusal::QuotaExceeded);
     }
-    if HOLDS <= low {
-        return Verdict::Refused(Refusal::HoldsExhausted);
-    }
-    Verdict::Accepted
+    let Some(_) = unused else {
+        return Err(Refusal::HoldsExhausted);
+    };
+    Ok(())
 }
 
 // Rule 8.37: whether a quota can claim an object.
-pub fn can_claim(heap: &[u8], words: &[u32; WORDS], quota: u32, handle: Handle) -> Verdict
+// It stands by itself, so that a send's stack holds one survey at a time.
+#[inline(never)]
+pub fn can_claim(
+    heap: &[u8],
+    words: &[u32; WORDS],
+    quota: u32,
+    handle: Handle,
+) -> Result<(), Refusal>
     ensures { outcome heap.now (accounts_of words.now) (verdict_values result)
         ≡ can_claim (table (edition_of words.now)) heap.now (accounts_of words.now) quota handle }
 {
-    let known = survey::survey(heap, words, survey::asked(quota, handle));
-    if let Verdict::Refused(refusal) = survey::verdict(known.refusal) {
-        return Verdict::Refused(refusal);
-    }
+    let known = survey::survey(heap, words, survey::asked(quota, handle))?;
     if QUOTAS <= quota as usize {
-        return Verdict::Refused(Refusal::QuotaNumber);
+        return Err(Refusal::QuotaNumber);
     }
     if words::permissions(words, quota) / CLAIM % 2 == 0 {
-        return Verdict::Refused(Refusal::NotPermitted);
+        return Err(Refusal::NotPermitted);
     }
-    if !known.found {
-        return Verdict::Refused(Refusal::NoSuchObject);
-    }
-    let length = (known.size - 8) as u32;
-    let at = known.holder;
-    if at < HOLDS {
+    let Some(block) = known.object else {
+        return Err(Refusal::NoSuchObject);
+    };
+    let length = (block.size - 8) as u32;
+    if let Some(at) = known.holder {
         return can_count(words, at);
     }
     can_pay(words, quota, known.low, length)

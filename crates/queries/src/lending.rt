@@ -3,46 +3,21 @@ ghost use Rattle.std.specs.Prelude.{◌≡◌, ◌+◌};
 ghost use Rattle.model.specs.Answers.{verdict_values};
 ghost use Rattle.results.specs.Results.{outcome};
 ghost use Rattle.rounding.specs.Rounding.{table};
-ghost use Rattle.queries.specs.Lending.{Spans, write_object, lent_bytes, lent_range, lent_refusal};
+ghost use Rattle.queries.specs.Lending.{IsLent, write_object, lent_bytes, lent_range, lent_refusal};
 ghost use Rattle.words.specs.Words.{edition_of, accounts_of};
 
-use model::{Handle, Refusal, Verdict};
+use model::{Handle, Refusal};
 use words::WORDS;
 
-// Where the lent bytes lie, and the refusal's number, 0 where there is none.
-#[derive(Clone, Copy)]
-pub(crate) struct Span {
-    pub refusal: u32,
-    pub start: usize,
-    pub end: usize,
-}
-
-// Rule 8.29: the range of a handle that names an object; an empty one with the refusal's number where lend is refused.
-fn span_of(heap: &[u8], words: &[u32; WORDS], handle: Handle) -> Span
-    ensures { Spans (table (edition_of words.now)) heap.now (accounts_of words.now) handle result.refusal result.start
-        result.end }
+// Whether lend accepts a handle: it names an object of a state that the check accepts.
+pub(crate) fn is_lent(heap: &[u8], words: &[u32; WORDS], handle: Handle) -> Result<(), Refusal>
+    ensures { IsLent (table (edition_of words.now)) heap.now (accounts_of words.now) handle result }
 {
-    let known = survey::survey(heap, words, survey::asked(0, handle));
-    if let Verdict::Refused(refusal) = survey::verdict(known.refusal) {
-        return Span {
-            refusal: refusal.number(),
-            start: 0,
-            end: 0,
-        };
-    }
-    if !known.found {
-        return Span {
-            refusal: Refusal::NoSuchObject.number(),
-            start: 0,
-            end: 0,
-        };
-    }
-    let start = handle.base as usize;
-    Span {
-        refusal: 0,
-        start: start,
-        end: start + handle.length as usize,
-    }
+    let known = survey::survey(heap, words, survey::asked(0, handle))?;
+    let Some(_) = known.object else {
+        return Err(Refusal::NoSuchObject);
+    };
+    Ok(())
 }
 
 // Rule 8.36: one byte of a handle's range is written, at a place that counts from the handle's base. A place at or beyond its length is accepted, and nothing
@@ -53,22 +28,16 @@ pub fn write_object(
     handle: Handle,
     at: u32,
     byte: u8,
-) -> Verdict
+) -> Result<(), Refusal>
     ensures { outcome heap.new (accounts_of words.now) (verdict_values result)
         ≡ write_object (table (edition_of words.now)) heap.old (accounts_of words.now) handle at byte }
 {
-    let known = survey::survey(heap, words, survey::asked(0, handle));
-    if let Verdict::Refused(refusal) = survey::verdict(known.refusal) {
-        return Verdict::Refused(refusal);
-    }
-    if !known.found {
-        return Verdict::Refused(Refusal::NoSuchObject);
-    }
+    is_lent(heap, words, handle)?;
     if at < handle.length {
         let index = handle.base as usize + at as usize;
         heap[index] = byte;
     }
-    Verdict::Accepted
+    Ok(())
 }
 
 // Rule 8.29: the bytes of a handle's range, as a part of the heap; an empty part where it is refused. The refusal's number, 0 where there is none, is left
@@ -86,9 +55,16 @@ pub fn lend<'a>(
     ensures refuses { refusal.new ≡ lent_refusal (table (edition_of words.now)) heap.old (accounts_of words.now)
         handle }
 {
-    let span = span_of(heap, words, handle);
-    *refusal = span.refusal;
-    let start = span.start;
-    let end = span.end;
-    &mut heap[start..end]
+    match is_lent(heap, words, handle) {
+        Ok(()) => {
+            *refusal = 0;
+            let start = handle.base as usize;
+            let end = start + handle.length as usize;
+            &mut heap[start..end]
+        }
+        Err(why) => {
+            *refusal = why.number();
+            &mut heap[0..0]
+        }
+    }
 }

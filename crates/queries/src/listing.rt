@@ -8,38 +8,37 @@ ghost use Rattle.queries.specs.Listing.{find_block};
 ghost use Rattle.words.specs.Words.{edition_of, accounts_of};
 
 use crate::query::check;
-use layout::Start;
-use model::{BlockAnswer, ListedBlock, Verdict};
+use model::{ListedBlock, Refusal};
 use words::WORDS;
 
 // The block that the walk meets at a place.
-pub(crate) fn find_block(heap: &[u8], at: usize) -> BlockAnswer
+pub(crate) fn find_block(heap: &[u8], at: usize) -> Result<Option<ListedBlock>, Refusal>
     ensures { result ≡ find_block at heap.now }
 {
     let mut place: usize = 0;
-    loop {
-        let Start::Block(header) = layout::start_at(heap, place) else {
-            return BlockAnswer::NoBlock;
-        };
+    while let Some(header) = layout::start_at(heap, place) {
         let size = 8 * header.size;
         if place == at {
-            return BlockAnswer::Listed(ListedBlock {
+            return Ok(Some(ListedBlock {
                 offset: place,
                 size: size,
                 serial: header.serial,
-            });
+            }));
         }
         place += size;
     }
+    Ok(None)
 }
 
 // The block that starts at a place of the heap, if one does.
-pub fn list_block(heap: &[u8], words: &[u32; WORDS], at: usize) -> BlockAnswer
+pub fn list_block(
+    heap: &[u8],
+    words: &[u32; WORDS],
+    at: usize,
+) -> Result<Option<ListedBlock>, Refusal>
     ensures { outcome heap.now (accounts_of words.now) (block_values result)
         ≡ list_block (table (edition_of words.now)) heap.now (accounts_of words.now) at }
 {
-    if let Verdict::Refused(refusal) = check(heap, words) {
-        return BlockAnswer::Refused(refusal);
-    }
+    check(heap, words)?;
     find_block(heap, at)
 }

@@ -1,12 +1,12 @@
 -- Packets in demand 3's lists: a send joins a history as a claim and a release, and a packet lives as long as its receiver holds it.
 -- A refused send leaves heap and accounts, so the list stays as it is. The rest is demand 3's: an object whose serial is held at every point since is live at
 -- its place, and a live object has a record, which is a hold of the ledger.
+use Rattle.std.specs.Prelude.{Option, Some, None}
 use Prim.Native.Nat.{ℕ, zero, suc, ◌+◌, ◌≤◌, ◌<◌}
 use native.Mathlib.Omega.{arith}
 use mathlib.Core.Path.{◌≡◌, refl, ap, sym, subst, ◌∙◌}
 use mathlib.Core.List.{List, [], ◌∷◌, ◌++◌, Memᴰ, cons≢nil}
 use mathlib.Core.Bool.{Bool, true, false}
-use mathlib.Core.Option.{Option, none, some}
 use mathlib.Core.Logic.{◌⊎◌, inl, inr, ⊎_elim}
 use lib.ListN.{length, get_or, take}
 use lib.Dec.{ltb, eqb}
@@ -70,11 +70,11 @@ given_still u h rest l w =
 
 -- lend where heap and accounts are consistent
 module _ (unit : ℕ → ℕ) (s : List ℕ) (k : Accounts) (a : allowed (length s) ≡ true) (w : consistent unit s k ≡ true) (h : Handle) where
-  lend_gives : (o : Handle) → lookup h s ≡ some o → lend unit s k h ≡ unchanged s k (lent (record { start = h.base; end = h.base + h.length }))
+  lend_gives : (o : Handle) → lookup h s ≡ Some o → lend unit s k h ≡ unchanged s k (lent (record { start = h.base; end = h.base + h.length }))
   unfolding lend row_lines first_refusal line_1 line_2 line_5 is_none unless
   lend_gives o e = rw (a, w, e)
 
-  lend_refuses : lookup h s ≡ none → (lend unit s k h).values.refusal ≡ 5
+  lend_refuses : lookup h s ≡ None → (lend unit s k h).values.refusal ≡ 5
   unfolding lend row_lines first_refusal line_1 line_2 line_5 is_none unless
   lend_refuses e = rw (a, w, e)
 
@@ -139,12 +139,12 @@ module _ (tables : ℕ → ℕ → ℕ) (units : (e : ℕ) → Units (tables e))
         (f.0.quota, (r.0, r.1, r.2 ∙ f.3, omega (arith, r.3, r.4)))
 
     -- nobody holds an object with the serial: no handle with it names one
-    names_none : (h : Handle) (serial : ℕ) → h.serial ≡ serial → NobodyHolds serial (ledger_of begun es) → lookup h s ≡ none
+    names_none : (h : Handle) (serial : ℕ) → h.serial ≡ serial → NobodyHolds serial (ledger_of begun es) → lookup h s ≡ None
     names_none h serial same f = go (lookup h s) refl
       where
-        go : (x : Option Handle) → lookup h s ≡ x → lookup h s ≡ none
-        go none e = e
-        go (some o) e =
+        go : (x : Option Handle) → lookup h s ≡ x → lookup h s ≡ None
+        go None e = e
+        go (Some o) e =
             let r = live_held o (lookup_named h s o e).1 in
             absurd (f r.0 (subst (λ (n : ℕ). HoldsIn r.0 n (ledger_of begun es)) (found_serial h s o e ∙ same) r.1))
 

@@ -1,12 +1,12 @@
 -- A send moves a hold: the claim and the release that it is made of are both accepted, and the receiver holds the packet then.
 -- A claim changes no byte and takes no hold from anybody, so what the sender could release it still can. The receiver's count is one more, and the
 -- release takes it away again only if sender and receiver are one, and then it was above 0 before.
+use Rattle.std.specs.Prelude.{Some}
 use Prim.Native.Nat.{ℕ, zero, suc, ◌+◌, ◌-◌, ◌<◌}
 use native.Mathlib.Omega.{arith}
 use mathlib.Core.Path.{◌≡◌, refl, ap, subst, ◌∙◌}
 use mathlib.Core.List.{List, [], ◌∷◌, Memᴰ}
 use mathlib.Core.Bool.{Bool, true, false, cond, ◌&&◌}
-use mathlib.Core.Option.{some}
 use lib.Dec.{eqb}
 use borrow.Author.Tests.{eqb-true, eq-eqb}
 use Rattle.accounts.specs.declared.Accounts.{Accounts}
@@ -64,7 +64,7 @@ module _ (tables : ℕ → ℕ → ℕ) (units : (e : ℕ) → Units (tables e))
   object = found (lookup h s)
 
   -- the handle names it
-  pub named : lookup h s ≡ some object
+  pub named : lookup h s ≡ Some object
   unfolding found or_else
   named = rw claimable.names
 

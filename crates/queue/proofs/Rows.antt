@@ -1,8 +1,8 @@
 -- Computed rows: sends on both sides of each line and what they leave, receives, a list of both, and a queue as words.
+use Rattle.std.specs.Prelude.{None}
 use Prim.Native.Nat.{ℕ}
 use mathlib.Core.Path.{◌≡◌, refl}
 use mathlib.Core.List.{List, [], ◌∷◌, ◌++◌, map}
-use mathlib.Core.Option.{none}
 use lib.ListN.{length, replicate}
 use Rattle.accounts.specs.declared.Hold.{Hold}
 use Rattle.accounts.specs.Accounts.{zero_hold, with_edition}
@@ -79,8 +79,8 @@ moved_rows : (sent (one_object 1 100 7) (empty_queue 0 1) (handle 12 4 1)
     × ((sent (one_object 2 100 7) (empty_queue 0 1) packet).accounts
     ≡ accounts_of (quota 100 76 ∷ quota 100 76 ∷ quota 50 50 ∷ []) 1 (hold 1 0 1 ∷ hold 1 1 1 ∷ []))
     × (send_events table (one_object 1 100 7).heap (one_object 1 100 7).accounts (empty_queue 0 1) packet
-    ≡ Called (Release 0 packet) (record { refusal = 0; handle = zero_handle; amount = 24; range = record { start = 0; end = 0 }; block = none })
-    ∷ Called (Claim 1 packet) (record { refusal = 0; handle = zero_handle; amount = 16; range = record { start = 0; end = 0 }; block = none }) ∷ [])
+    ≡ Called (Release 0 packet) (record { refusal = 0; handle = zero_handle; amount = 24; range = record { start = 0; end = 0 }; block = None })
+    ∷ Called (Claim 1 packet) (record { refusal = 0; handle = zero_handle; amount = 16; range = record { start = 0; end = 0 }; block = None }) ∷ [])
 unfolding rows
 moved_rows = (refl, refl, refl)
 

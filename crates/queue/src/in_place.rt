@@ -10,8 +10,8 @@ ghost use Rattle.queue.specs.Results.{send_outcome, send_result, receive_outcome
 use crate::places::{
     COUNT, QUEUE_WORDS, RECEIVER, SENDER, drop_oldest, oldest, put_handle, word_at,
 };
-use crate::{PLACES, QueueRefusal, ReceiveAnswer, SendAnswer};
-use model::{AmountAnswer, Handle, Verdict};
+use crate::{PLACES, QueueRefusal};
+use model::{Handle, Refusal};
 use words::WORDS;
 
 // A handle is sent: the receiver claims the object and the sender releases it. Where one of the two would be refused, nothing has changed.
@@ -20,46 +20,45 @@ pub fn send_in_place(
     words: &mut [u32; WORDS],
     queue: &mut [u32; QUEUE_WORDS],
     handle: Handle,
-) -> SendAnswer
+) -> Result<(), QueueRefusal>
     ensures holds { send_outcome heap.new (send_result words.new queue.new result)
         ≡ send_of (table (edition_of words.old)) heap.old (accounts_of words.old) (queue_of queue.old) handle }
     ensures pads { Padded words.old words.new }
 {
     let count = word_at(queue, COUNT) as usize;
     if PLACES < count {
-        return SendAnswer::Refused(QueueRefusal::Damaged);
+        return Err(QueueRefusal::Damaged);
     }
     if count == PLACES {
-        return SendAnswer::Refused(QueueRefusal::Full);
+        return Err(QueueRefusal::Full);
     }
     let sender = word_at(queue, SENDER);
     let receiver = word_at(queue, RECEIVER);
-    if let Verdict::Refused(refusal) = heap::in_place::can_release(heap, words, sender, handle) {
-        if let Verdict::Refused(first) = heap::in_place::can_claim(heap, words, receiver, handle) {
-            return SendAnswer::Refused(QueueRefusal::Heap(first));
+    if let Err(refusal) = heap::in_place::can_release(heap, words, sender, handle) {
+        if let Err(first) = heap::in_place::can_claim(heap, words, receiver, handle) {
+            return Err(QueueRefusal::Heap(first));
         }
-        return SendAnswer::Refused(QueueRefusal::Heap(refusal));
+        return Err(QueueRefusal::Heap(refusal));
     }
-    if let AmountAnswer::Refused(refusal) = heap::in_place::claim(heap, words, receiver, handle) {
-        return SendAnswer::Refused(QueueRefusal::Heap(refusal));
-    }
-    heap::in_place::release(heap, words, sender, handle);
+    heap::in_place::claim(heap, words, receiver, handle)?;
+    // The release is not refused: it was asked for, and the claim leaves the sender's hold.
+    let _ = heap::in_place::release(heap, words, sender, handle);
     put_handle(queue, handle);
-    SendAnswer::Sent
+    Ok(())
 }
 
 // The oldest handle is given.
-pub fn receive_in_place(queue: &mut [u32; QUEUE_WORDS]) -> ReceiveAnswer
+pub fn receive_in_place(queue: &mut [u32; QUEUE_WORDS]) -> Result<Handle, QueueRefusal>
     ensures { receive_outcome (receive_result queue.new result) ≡ receive_of (queue_of queue.old) }
 {
     let count = word_at(queue, COUNT) as usize;
     if PLACES < count {
-        return ReceiveAnswer::Refused(QueueRefusal::Damaged);
+        return Err(QueueRefusal::Damaged);
     }
     if count == 0 {
-        return ReceiveAnswer::Refused(QueueRefusal::Empty);
+        return Err(QueueRefusal::Empty);
     }
     let handle = oldest(queue);
     drop_oldest(queue);
-    ReceiveAnswer::Given(handle)
+    Ok(handle)
 }

@@ -2,13 +2,14 @@
 // out.
 #![tactic(auto)]
 
-ghost use Rattle.std.specs.Prelude.{◌≡◌, ◌<◌};
+ghost use Rattle.std.specs.Prelude.{◌≡◌, ◌<◌, Err};
 ghost use Rattle.rounding.specs.Rounding.{table};
+ghost use Rattle.queue.specs.declared.QueueRefusal.TheVariants.{Heap};
 ghost use Rattle.queue.specs.Queue.{PLACES, empty_queue, with_handle, without_oldest, send as send_of, receive as receive_of};
 ghost use Rattle.queue.specs.Results.{queue_refusal_number, send_outcome, receive_outcome};
 
 use accounts::Accounts;
-use model::{AmountAnswer, Handle, Refusal, Verdict};
+use model::{Handle, Refusal};
 
 mod in_place;
 mod places;
@@ -38,33 +39,19 @@ pub enum QueueRefusal {
     Heap(Refusal),
 }
 
-// The answer of a send.
-#[derive(Clone, Copy)]
-pub enum SendAnswer {
-    Sent,
-    Refused(QueueRefusal),
-}
-
-// The answer of a receive.
-#[derive(Clone, Copy)]
-pub enum ReceiveAnswer {
-    Given(Handle),
-    Refused(QueueRefusal),
-}
-
 // What a send gives: the accounts and the queue after it, and its answer.
 #[derive(Clone, Copy)]
 pub struct SendResult {
     pub accounts: Accounts,
     pub queue: Queue,
-    pub answer: SendAnswer,
+    pub answer: Result<(), QueueRefusal>,
 }
 
 // What a receive gives: the queue after it, and its answer.
 #[derive(Clone, Copy)]
 pub struct ReceiveResult {
     pub queue: Queue,
-    pub answer: ReceiveAnswer,
+    pub answer: Result<Handle, QueueRefusal>,
 }
 
 impl QueueRefusal {
@@ -78,6 +65,15 @@ impl QueueRefusal {
             QueueRefusal::Empty => 52,
             QueueRefusal::Heap(refusal) => refusal.number(),
         }
+    }
+}
+
+impl From<Refusal> for QueueRefusal {
+    ghost from_gives = { λ refusal given. given ≡ Heap refusal };
+
+    // A refusal of the heap is one of the queue.
+    fn from(refusal: Refusal) -> QueueRefusal {
+        QueueRefusal::Heap(refusal)
     }
 }
 
@@ -115,20 +111,12 @@ impl Queue {
         requires { 0 < self.count }
         ensures { result ≡ without_oldest self }
     {
-        let old = self.handles;
-        let zero = Handle {
+        self.handles.copy_within(1.., 0);
+        self.handles[PLACES - 1] = Handle {
             base: 0,
             length: 0,
             serial: 0,
         };
-        let mut left = [zero; PLACES];
-        let mut i: usize = 1;
-        while i < PLACES {
-            let handle = old[i];
-            left[i - 1] = handle;
-            i += 1;
-        }
-        self.handles = left;
         self.count = self.count - 1;
         self
     }
@@ -136,12 +124,12 @@ impl Queue {
 
 // A send that is refused.
 fn not_sent(accounts: Accounts, queue: Queue, refusal: QueueRefusal) -> SendResult
-    ensures { result ≡ record { accounts = accounts; queue = queue; answer = SendAnswer.Refused refusal } }
+    ensures { result ≡ record { accounts = accounts; queue = queue; answer = Err refusal } }
 {
     SendResult {
         accounts: accounts,
         queue: queue,
-        answer: SendAnswer::Refused(refusal),
+        answer: Err(refusal),
     }
 }
 
@@ -157,10 +145,10 @@ pub fn send(heap: &mut [u8], accounts: Accounts, queue: Queue, handle: Handle) -
     }
     let claimed = heap::claim(heap, accounts, queue.receiver, handle);
     let answer = claimed.answer;
-    if let AmountAnswer::Refused(refusal) = answer {
+    if let Err(refusal) = answer {
         return not_sent(accounts, queue, QueueRefusal::Heap(refusal));
     }
-    if let Verdict::Refused(refusal) = heap::can_release(heap, accounts, queue.sender, handle) {
+    if let Err(refusal) = heap::can_release(heap, accounts, queue.sender, handle) {
         return not_sent(accounts, queue, QueueRefusal::Heap(refusal));
     }
     let held = claimed.accounts;
@@ -169,7 +157,7 @@ pub fn send(heap: &mut [u8], accounts: Accounts, queue: Queue, handle: Handle) -
     SendResult {
         accounts: left,
         queue: queue.with_handle(handle),
-        answer: SendAnswer::Sent,
+        answer: Ok(()),
     }
 }
 
@@ -180,18 +168,18 @@ pub fn receive(queue: Queue) -> ReceiveResult
     if PLACES < queue.count as usize {
         return ReceiveResult {
             queue: queue,
-            answer: ReceiveAnswer::Refused(QueueRefusal::Damaged),
+            answer: Err(QueueRefusal::Damaged),
         };
     }
     if queue.count == 0 {
         return ReceiveResult {
             queue: queue,
-            answer: ReceiveAnswer::Refused(QueueRefusal::Empty),
+            answer: Err(QueueRefusal::Empty),
         };
     }
     let oldest = queue.handles[0];
     ReceiveResult {
         queue: queue.without_oldest(),
-        answer: ReceiveAnswer::Given(oldest),
+        answer: Ok(oldest),
     }
 }

@@ -21,14 +21,6 @@ const LAST: usize = 3 * PLACES;
 
 pub const QUEUE_WORDS: usize = FIRST + 3 * PLACES;
 
-// The number of words. The contract tells what an array's type does, which the proof of a function that is lent the array does not know. A call is compiled to
-// nothing.
-fn size(queue: [u32; QUEUE_WORDS]) -> usize
-    ensures { length queue ≡ QUEUE_WORD_COUNT }
-{
-    QUEUE_WORDS
-}
-
 // One of the words.
 pub(crate) fn word_at(queue: &[u32; QUEUE_WORDS], at: usize) -> u32
     requires { at < QUEUE_WORD_COUNT }
@@ -53,7 +45,6 @@ pub(crate) fn put_handle(queue: &mut [u32; QUEUE_WORDS], handle: Handle)
     requires { get_or queue.old COUNT 0 < PLACES }
     ensures { queue_of queue.new ≡ with_handle handle (queue_of queue.old) }
 {
-    size(*queue);
     let count = word_at(queue, COUNT);
     let at = FIRST + 3 * (count as usize);
     queue[at] = handle.base;
@@ -66,12 +57,7 @@ pub(crate) fn put_handle(queue: &mut [u32; QUEUE_WORDS], handle: Handle)
 fn move_up(queue: &mut [u32; QUEUE_WORDS])
     ensures { MovedUp queue.old queue.new }
 {
-    size(*queue);
-    let mut i: usize = FIRST;
-    while i < LAST {
-        queue[i] = word_at(queue, i + 3);
-        i += 1;
-    }
+    queue.copy_within(FIRST + 3.., FIRST);
     queue[LAST] = 0;
     queue[LAST + 1] = 0;
     queue[LAST + 2] = 0;
@@ -82,7 +68,6 @@ pub(crate) fn drop_oldest(queue: &mut [u32; QUEUE_WORDS])
     requires { 0 < get_or queue.old COUNT 0 }
     ensures { queue_of queue.new ≡ without_oldest (queue_of queue.old) }
 {
-    size(*queue);
     let count = word_at(queue, COUNT);
     move_up(queue);
     queue[COUNT] = count - 1;

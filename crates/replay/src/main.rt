@@ -5,7 +5,7 @@ ghost use Rattle.std.specs.Prelude.{◌≡◌, length};
 ghost use Rattle.io.specs.Counts.{IsPrefixLen};
 ghost use Rattle.replay_model.specs.Replay.{OUTPUT as OutputLength};
 
-use replay_text::{OUTPUT, Replayed};
+use replay_text::OUTPUT;
 
 // The numbers of standard input and output.
 const STDIN_FILENO: i32 = 0;
@@ -33,10 +33,7 @@ fn output_space() -> [u8; OUTPUT]
 fn print(input: &[u8], output: &mut [u8]) -> usize
     ensures { IsPrefixLen result output.new }
 {
-    let Replayed::Written(count) = replay_text::replay(input, output) else {
-        return 0;
-    };
-    count
+    replay_text::replay(input, output).unwrap_or(0)
 }
 
 fn main() {

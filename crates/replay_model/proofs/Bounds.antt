@@ -1,9 +1,9 @@
 -- The output of every replay is short enough: an answer's line is at most six times as long as the line that asked for it, and a heap has at most
 -- 4,096 blocks.
+use Rattle.std.specs.Prelude.{Option, Some, None}
 use mathlib.Core.Path.{◌≡◌, refl, sym}
 use mathlib.Core.List.{List, [], ◌∷◌, ◌++◌}
 use mathlib.Core.Bool.{Bool, true, false, cond}
-use mathlib.Core.Option.{Option, none, some}
 use Prim.Native.Nat.{ℕ, suc, ◌+◌, ◌*◌, ◌≤◌, ◌<◌}
 use native.Mathlib.Omega.{arith}
 use lib.Dec.{ltb, eqb}
@@ -97,8 +97,8 @@ unfolding blocks_of or_else total_size
 blocks_within s = go (parse s) refl
   where
     go : (o : Option (List Block)) → parse s ≡ o → total_size (or_else [] o) ≤ length s
-    go none e = omega arith
-    go (some bs) e = omega (arith, total_parsed s bs e)
+    go None e = omega arith
+    go (Some bs) e = omega (arith, total_parsed s bs e)
 
 abbrev list_most : ℕ
 list_most = 135168
@@ -131,34 +131,34 @@ spans_split mark (b ∷ s) = go (eqb b mark) (spans_split mark s)
     go false e = omega (arith, onto_spans b (split mark s) (length s) e)
 
 -- a number has a digit, a call has a number, and a name has three letters
-number_least : (w : List ℕ) (n : ℕ) → read_number w ≡ some n → 1 ≤ length w
+number_least : (w : List ℕ) (n : ℕ) → read_number w ≡ Some n → 1 ≤ length w
 unfolding read_number
 number_least [] n e = let z : ◌≡◌ {A = ℕ} 0 1 = cc in absurd (omega arith)
 number_least (b ∷ w) n e = omega arith
 
-numbers_least : (ws : List (List ℕ)) (ns : List ℕ) → numbers ws ≡ some ns → 2 * length ns ≤ spans ws
+numbers_least : (ws : List (List ℕ)) (ns : List ℕ) → numbers ws ≡ Some ns → 2 * length ns ≤ spans ws
 unfolding numbers join_number total
 numbers_least [] ns e = let q : ns ≡ [] = cc in rw q (omega arith)
 numbers_least (w ∷ ws) ns e = go (read_number w) refl (numbers ws) (λ ms. numbers_least ws ms) e
   where
-    go : (o : Option ℕ) → read_number w ≡ o → (p : Option (List ℕ)) → ((ms : List ℕ) → p ≡ some ms → 2 * length ms ≤ spans ws) → join_number o p
-        ≡ some ns
+    go : (o : Option ℕ) → read_number w ≡ o → (p : Option (List ℕ)) → ((ms : List ℕ) → p ≡ Some ms → 2 * length ms ≤ spans ws) → join_number o p
+        ≡ Some ns
         → 2 * length ns ≤ length w + 1 + spans ws
-    go none a p ih f = let z : ◌≡◌ {A = ℕ} 0 1 = cc in absurd (omega arith)
-    go (some n) a none ih f = let z : ◌≡◌ {A = ℕ} 0 1 = cc in absurd (omega arith)
-    go (some n) a (some ms) ih f =
+    go None a p ih f = let z : ◌≡◌ {A = ℕ} 0 1 = cc in absurd (omega arith)
+    go (Some n) a None ih f = let z : ◌≡◌ {A = ℕ} 0 1 = cc in absurd (omega arith)
+    go (Some n) a (Some ms) ih f =
         let q : n ∷ ms ≡ ns = cc in
         rw (sym q) (omega (arith, number_least w n a, ih ms refl))
 
-taking_some : (k : ℕ) (ns : List ℕ) (c d : Call) → taking k ns d ≡ some c → length ns ≡ k
+taking_some : (k : ℕ) (ns : List ℕ) (c d : Call) → taking k ns d ≡ Some c → length ns ≡ k
 unfolding taking
 taking_some k ns c d e = go (eqb (length ns) k) refl e
   where
-    go : (t : Bool) → eqb (length ns) k ≡ t → cond t (some d) none ≡ some c → length ns ≡ k
+    go : (t : Bool) → eqb (length ns) k ≡ t → cond t (Some d) None ≡ Some c → length ns ≡ k
     go true q f = eqb-true (length ns) k q
     go false q f = let z : ◌≡◌ {A = ℕ} 0 1 = cc in absurd (omega arith)
 
-call_least : (x : Word) (ns : List ℕ) (c : Call) → call_of x ns ≡ some c → (1 ≤ length ns) × (x ≡ Unknown → ⊥)
+call_least : (x : Word) (ns : List ℕ) (c : Call) → call_of x ns ≡ Some c → (1 ≤ length ns) × (x ≡ Unknown → ⊥)
 unfolding call_of
 call_least Open ns c e = let z : ◌≡◌ {A = ℕ} 0 1 = cc in absurd (omega arith)
 call_least Alloc ns c e = (
@@ -206,20 +206,20 @@ word_least w h = go (ltb (length w) 3) refl
     go true e = absurd (h (short_unknown w (ltb-true (length w) 3 e)))
     go false e = ltb-false (length w) 3 e
 
-phrase_least : (ps : List (List ℕ)) (c : Call) → phrase_call (phrase_of ps) ≡ some c → 6 ≤ spans ps
+phrase_least : (ps : List (List ℕ)) (c : Call) → phrase_call (phrase_of ps) ≡ Some c → 6 ≤ spans ps
 unfolding phrase_call phrase_of named total
 phrase_least [] c e = let z : ◌≡◌ {A = ℕ} 0 1 = cc in absurd (omega arith)
 phrase_least (w ∷ ws) c e = go (numbers ws) (λ ns. numbers_least ws ns) e
   where
-    go : (p : Option (List ℕ)) → ((ns : List ℕ) → p ≡ some ns → 2 * length ns ≤ spans ws) → phrase_call (named (word_of w) p) ≡ some c
+    go : (p : Option (List ℕ)) → ((ns : List ℕ) → p ≡ Some ns → 2 * length ns ≤ spans ws) → phrase_call (named (word_of w) p) ≡ Some c
         → 6 ≤ length w + 1 + spans ws
-    go none h f = let z : ◌≡◌ {A = ℕ} 0 1 = cc in absurd (omega arith)
-    go (some ns) h f =
+    go None h f = let z : ◌≡◌ {A = ℕ} 0 1 = cc in absurd (omega arith)
+    go (Some ns) h f =
         let l = call_least (word_of w) ns c f in
         omega (arith, l.0, word_least w l.1, h ns refl)
 
 -- so a line that asks for a call has six bytes with its line feed
-line_least : (l : List ℕ) (c : Call) → line_call l ≡ some c → 6 ≤ length l + 1
+line_least : (l : List ℕ) (c : Call) → line_call l ≡ Some c → 6 ≤ length l + 1
 unfolding line_call
 line_least l c e = omega (arith, phrase_least (words l) c e, spans_split SPACE l)
 
@@ -238,8 +238,8 @@ run_most (l ∷ (m ∷ ls)) s k r = go (line_call l) refl (λ s' k'. run_most (m
         → length (run_lines (m ∷ ls) s' k') ≤ 6 * spans (m ∷ ls) + list_most)
         → length (on_call o (λ c. answer_line c (own_step c s k).values ++ run_lines (m ∷ ls) (own_step c s k).heap (own_step c s k).accounts))
         ≤ 6 * (length l + 1 + spans (m ∷ ls)) + list_most
-    go none e ih = omega (arith, bad_most)
-    go (some c) e ih =
+    go None e ih = omega (arith, bad_most)
+    go (Some c) e ih =
         let t = own_step c s k in
         omega (
           arith,
@@ -280,10 +280,10 @@ input_most [] = omega (arith, bad_most)
 input_most (l ∷ []) = omega (arith, bad_most)
 input_most (l ∷ (m ∷ ls)) = go (line_opening l) (λ o. opening_granted l o)
   where
-    go : (p : Option Opening) → ((o : Opening) → p ≡ some o → Granted o.grants)
+    go : (p : Option Opening) → ((o : Opening) → p ≡ Some o → Granted o.grants)
         → length (run_opening p (m ∷ ls)) ≤ 6 * (length l + 1 + spans (m ∷ ls)) + list_most + 14
-    go none g = omega (arith, bad_most)
-    go (some o) g = omega (arith, opened_most (replicate o.heap 0) o.grants (m ∷ ls) (g o refl))
+    go None g = omega (arith, bad_most)
+    go (Some o) g = omega (arith, opened_most (replicate o.heap 0) o.grants (m ∷ ls) (g o refl))
 
 -- THE BOUND: no input prints more than OUTPUT bytes
 pub replay_fits : (s : List ℕ) → length (replay s) ≤ OUTPUT

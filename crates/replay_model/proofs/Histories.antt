@@ -1,9 +1,9 @@
 -- Every replay whose opening is accepted is a history: its events are the calls of its lines with what each answers, and what it prints are their answers.
 -- So demand 3 holds of it, at every split of its events.
+use Rattle.std.specs.Prelude.{Option, Some, None}
 use mathlib.Core.Path.{◌≡◌, refl, ap, sym, subst, ◌∙◌}
 use mathlib.Core.List.{List, [], ◌∷◌, ◌++◌, append_assoc}
 use mathlib.Core.Bool.{Bool, cond}
-use mathlib.Core.Option.{Option, none, some}
 use Prim.Native.Nat.{ℕ, ◌≤◌}
 use borrow.Author.Tests.{le-ltb, eq-eqb}
 use lib.ListN.{length, replicate}
@@ -43,8 +43,8 @@ module _ (grants : List ℕ) where
           (ran_lines (m ∷ ls) s' k' es').accounts)
           → History table own_step (empty plain grants) (ran_call o stopped after).events (ran_call o stopped after).heap
           (ran_call o stopped after).accounts
-      go none ih = h
-      go (some c) ih =
+      go None ih = h
+      go (Some c) ih =
           let t = own_step c s k in
           ih t.heap t.accounts (Called c t.values ∷ es) (s, k, h, refl)
 
@@ -68,8 +68,8 @@ ran_printed (l ∷ (m ∷ ls)) s k es = go (line_call l) (λ s' k' es'. ran_prin
         → answer_lines es ++ on_call o (λ c. answer_line c (own_step c s k).values
         ++ run_lines (m ∷ ls) (own_step c s k).heap (own_step c s k).accounts)
         ≡ answer_lines (ran_call o stopped after).events ++ (ran_call o stopped after).last
-    go none ih = refl
-    go (some c) ih =
+    go None ih = refl
+    go (Some c) ih =
         let t = own_step c s k in
         sym (append_assoc (answer_lines es) (answer_line c t.values) (run_lines (m ∷ ls) t.heap t.accounts))
         ∙ ih t.heap t.accounts (Called c t.values ∷ es)
@@ -79,7 +79,7 @@ begun_printed : (o : Outcome) (ls : List (List ℕ)) → o.values.refusal ≡ 0 
 unfolding run_opened
 begun_printed o ls z = rw (eq-eqb o.values.refusal 0 z)
 
-whole_printed : (s l m : List ℕ) (ls : List (List ℕ)) (o : Opening) → length s ≤ LONGEST → lines s ≡ l ∷ (m ∷ ls) → line_opening l ≡ some o
+whole_printed : (s l m : List ℕ) (ls : List (List ℕ)) (o : Opening) → length s ≤ LONGEST → lines s ≡ l ∷ (m ∷ ls) → line_opening l ≡ Some o
     → replay s ≡ run_opened (open_heap plain (replicate o.heap 0) o.grants) (m ∷ ls)
 unfolding replay run_input run_opening
 whole_printed s l m ls o h e q =
@@ -88,7 +88,7 @@ whole_printed s l m ls o h e q =
     ∙ ap (λ (p : Option Opening). run_opening p (m ∷ ls)) q
 
 -- THE THEOREM
-pub replay_history : (s l m : List ℕ) (ls : List (List ℕ)) (o : Opening) → length s ≤ LONGEST → lines s ≡ l ∷ (m ∷ ls) → line_opening l ≡ some o
+pub replay_history : (s l m : List ℕ) (ls : List (List ℕ)) (o : Opening) → length s ≤ LONGEST → lines s ≡ l ∷ (m ∷ ls) → line_opening l ≡ Some o
     → (open_heap plain (replicate o.heap 0) o.grants).values.refusal ≡ 0
     → Historical s o.grants
     (ran_lines (m ∷ ls) (open_heap plain (replicate o.heap 0) o.grants).heap (open_heap plain (replicate o.heap 0) o.grants).accounts

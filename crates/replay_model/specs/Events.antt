@@ -1,6 +1,5 @@
 -- The events of a replay, in the ledger's sense: the calls of its lines with what each answers, the newest first.
-use Rattle.std.specs.Prelude.{ℕ, ◌<◌, ◌^◌, ◌≡◌, length, get_or, List, [], ◌∷◌, ◌++◌}
-use Rattle.std.proofs.Math.Option.{Option, none, some}
+use Rattle.std.specs.Prelude.{ℕ, ◌<◌, ◌^◌, ◌≡◌, length, get_or, List, [], ◌∷◌, ◌++◌, Option, Some, None}
 use Rattle.accounts.specs.declared.Accounts.{Accounts}
 use Rattle.rounding.specs.Rounding.{table}
 use Rattle.model.specs.Step.{own_step}
@@ -21,8 +20,8 @@ pub record Ran : Type 0 where
 
 -- the call of a line, if it has one
 unfoldable pub ran_call : Option Call → Ran → (Call → Ran) → Ran
-ran_call none stopped go = stopped
-ran_call (some c) stopped go = go c
+ran_call None stopped go = stopped
+ran_call (Some c) stopped go = go c
 
 -- the lines behind the opening, on a heap and its accounts, with the events so far
 unfoldable pub ran_lines : List (List ℕ) → List ℕ → Accounts → List Event → Ran

@@ -1,6 +1,5 @@
 -- Lines of an input and words of a line (rule 11.2).
-use Rattle.std.specs.Prelude.{ℕ, List, [], ◌∷◌, cond, eqb}
-use Rattle.std.proofs.Math.Option.{Option, none, some}
+use Rattle.std.specs.Prelude.{ℕ, List, [], ◌∷◌, cond, eqb, Option, Some, None}
 use Rattle.replay_model.specs.Text.{SPACE, LINE_FEED, read_number}
 
 -- a byte in front of the first of these parts
@@ -25,10 +24,10 @@ words l = split SPACE l
 
 -- the numbers that words are; none where one of them is no number
 unfoldable pub join_number : Option ℕ → Option (List ℕ) → Option (List ℕ)
-join_number none ns = none
-join_number (some n) none = none
-join_number (some n) (some ns) = some (n ∷ ns)
+join_number None ns = None
+join_number (Some n) None = None
+join_number (Some n) (Some ns) = Some (n ∷ ns)
 
 unfoldable pub numbers : List (List ℕ) → Option (List ℕ)
-numbers [] = some []
+numbers [] = Some []
 numbers (w ∷ ws) = join_number (read_number w) (numbers ws)

@@ -1,6 +1,5 @@
 -- The replay program (rules, section 11), as a function from input bytes to output bytes.
-use Rattle.std.specs.Prelude.{ℕ, List, [], ◌∷◌, ◌++◌, Bool, true, false, cond, ltb, eqb, length, replicate}
-use Rattle.std.proofs.Math.Option.{Option, none, some}
+use Rattle.std.specs.Prelude.{ℕ, List, [], ◌∷◌, ◌++◌, Bool, true, false, cond, ltb, eqb, length, replicate, Option, Some, None}
 use Rattle.accounts.specs.declared.Accounts.{Accounts}
 use Rattle.model.specs.Answers.{Values}
 use Rattle.model.specs.Objects.{blocks_of}
@@ -79,8 +78,8 @@ ending (b ∷ rest) s = bad_line
 
 -- rule 11.9: what a call of a line leads to, `bad` where there is none
 unfoldable pub on_call : Option Call → (Call → List ℕ) → List ℕ
-on_call none run = bad_line
-on_call (some c) run = run c
+on_call None run = bad_line
+on_call (Some c) run = run c
 
 -- rule 11.7, the lines behind the opening, on a heap and its accounts: a call is answered, and the next line is run on what the call leaves
 unfoldable pub run_lines : List (List ℕ) → List ℕ → Accounts → List ℕ
@@ -97,8 +96,8 @@ run_opened o ls =
 
 -- an opening: of a heap of so many bytes, all zero before it as after it
 unfoldable pub run_opening : Option Opening → List (List ℕ) → List ℕ
-run_opening none ls = bad_line
-run_opening (some o) ls = run_opened (open_heap plain (replicate o.heap 0) o.grants) ls
+run_opening None ls = bad_line
+run_opening (Some o) ls = run_opened (open_heap plain (replicate o.heap 0) o.grants) ls
 
 -- rules 11.5 and 11.11, the lines of an input: the first opens the heap; where no line ends there is none
 unfoldable pub run_input : List (List ℕ) → List ℕ

@@ -1,8 +1,7 @@
 -- Words and numbers as text: bytes in ASCII, and numbers in decimal without leading zeros.
-use Rattle.std.specs.Prelude.{ℕ, zero, suc, ◌+◌, ◌*◌, ◌-◌, ◌/◌, ◌%◌, List, [], ◌∷◌, ◌++◌, Bool, true, false, cond, ◌&&◌, leb, ltb, eqb}
+use Rattle.std.specs.Prelude.{ℕ, zero, suc, ◌+◌, ◌*◌, ◌-◌, ◌/◌, ◌%◌, List, [], ◌∷◌, ◌++◌, Bool, true, false, cond, ◌&&◌, leb, ltb, eqb, Option, Some, None}
 use Prim.Native.Char.{code}
 use Prim.Native.String.{String, [] as «no_text», ◌∷◌ as ◌«then»◌}
-use Rattle.std.proofs.Math.Option.{Option, none, some}
 
 -- the bytes of a text
 abbrev pub text : String → List ℕ
@@ -41,17 +40,17 @@ is_digit b = leb 48 b && leb b 57
 
 -- the number that digits give behind the number n; none where another byte stands among them, or the number gets too large
 unfoldable pub read_on : ℕ → List ℕ → Option ℕ
-read_on n [] = some n
+read_on n [] = Some n
 read_on n (b ∷ bs) =
     let next = n * 10 + (b - 48) in
     let rest = read_on next bs in
-    cond (is_digit b && leb next greatest_number) rest none
+    cond (is_digit b && leb next greatest_number) rest None
 
 -- rule 11.3: no 0 in front of another digit, and no empty word
 unfoldable pub read_number : List ℕ → Option ℕ
-read_number [] = none
+read_number [] = None
 read_number (b ∷ []) = read_on 0 (b ∷ [])
-read_number (b ∷ (c ∷ w)) = cond (eqb b 48) none (read_on 0 (b ∷ (c ∷ w)))
+read_number (b ∷ (c ∷ w)) = cond (eqb b 48) None (read_on 0 (b ∷ (c ∷ w)))
 
 -- two words are the same
 unfoldable pub same : List ℕ → List ℕ → Bool

@@ -1,15 +1,11 @@
 -- The numbers of an answer are those of its values.
+use Rattle.std.specs.Prelude.{Some, None, Ok, Err}
 use Prim.Native.Nat.{ℕ}
 use mathlib.Core.Path.{◌≡◌, refl, ap, sym, ◌∙◌}
 use mathlib.Core.List.{[], ◌∷◌}
 use mathlib.Core.Bool.{Bool, true, false, cond}
 use borrow.Author.Tests.{eq-eqb, ne_eqb}
 use Rattle.model.specs.Answers.{verdict_values, handle_values, amount_values, range_values, block_values, answer_values}
-use Rattle.model.specs.declared.Verdict.TheVariants.{Accepted, Refused as NotAccepted}
-use Rattle.model.specs.declared.HandleAnswer.TheVariants.{Given, Refused as NotGiven}
-use Rattle.model.specs.declared.AmountAnswer.TheVariants.{Amount, Refused as NoAmount}
-use Rattle.model.specs.declared.RangeAnswer.TheVariants.{Lent, Refused as NotLent}
-use Rattle.model.specs.declared.BlockAnswer.TheVariants.{Listed, NoBlock, Refused as NotListed}
 use Rattle.model.specs.declared.Answer.{Answer}
 use Rattle.model.specs.declared.Answer.TheVariants.{Verdict as OfVerdict, Handle as OfHandle, Amount as OfAmount, Range as OfRange, Block as OfBlock}
 use Rattle.model.specs.declared.Handle.{Handle}
@@ -25,17 +21,17 @@ pub record Numbers (a : Answer) : Type 0 where
 
 pub answer_numbers_are : (a : Answer) → Numbers a
 unfolding verdict_values handle_values amount_values range_values block_values answer_values
-answer_numbers_are (OfVerdict Accepted) = record { refusal = refl; handle = refl; amount = refl }
-answer_numbers_are (OfVerdict (NotAccepted r)) = record { refusal = refl; handle = refl; amount = refl }
-answer_numbers_are (OfHandle (Given h)) = record { refusal = refl; handle = refl; amount = refl }
-answer_numbers_are (OfHandle (NotGiven r)) = record { refusal = refl; handle = refl; amount = refl }
-answer_numbers_are (OfAmount (Amount n)) = record { refusal = refl; handle = refl; amount = refl }
-answer_numbers_are (OfAmount (NoAmount r)) = record { refusal = refl; handle = refl; amount = refl }
-answer_numbers_are (OfRange (Lent x)) = record { refusal = refl; handle = refl; amount = refl }
-answer_numbers_are (OfRange (NotLent r)) = record { refusal = refl; handle = refl; amount = refl }
-answer_numbers_are (OfBlock (Listed b)) = record { refusal = refl; handle = refl; amount = refl }
-answer_numbers_are (OfBlock NoBlock) = record { refusal = refl; handle = refl; amount = refl }
-answer_numbers_are (OfBlock (NotListed r)) = record { refusal = refl; handle = refl; amount = refl }
+answer_numbers_are (OfVerdict (Ok tt)) = record { refusal = refl; handle = refl; amount = refl }
+answer_numbers_are (OfVerdict (Err r)) = record { refusal = refl; handle = refl; amount = refl }
+answer_numbers_are (OfHandle (Ok h)) = record { refusal = refl; handle = refl; amount = refl }
+answer_numbers_are (OfHandle (Err r)) = record { refusal = refl; handle = refl; amount = refl }
+answer_numbers_are (OfAmount (Ok n)) = record { refusal = refl; handle = refl; amount = refl }
+answer_numbers_are (OfAmount (Err r)) = record { refusal = refl; handle = refl; amount = refl }
+answer_numbers_are (OfRange (Ok x)) = record { refusal = refl; handle = refl; amount = refl }
+answer_numbers_are (OfRange (Err r)) = record { refusal = refl; handle = refl; amount = refl }
+answer_numbers_are (OfBlock (Ok (Some b))) = record { refusal = refl; handle = refl; amount = refl }
+answer_numbers_are (OfBlock (Ok None)) = record { refusal = refl; handle = refl; amount = refl }
+answer_numbers_are (OfBlock (Err r)) = record { refusal = refl; handle = refl; amount = refl }
 
 -- the line of an answer, from its numbers
 module _ (c : Call) (a : Answer) (n : ℕ) (e : n ≡ answer_refusal a) where

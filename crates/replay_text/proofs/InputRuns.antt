@@ -2,13 +2,13 @@
 use mathlib.Core.Path.{◌≡◌, ap, sym, ◌∙◌}
 use mathlib.Core.List.{List, ◌++◌}
 use mathlib.Core.Bool.{Bool, true, false, cond}
-use mathlib.Core.Option.{none, some}
 use Prim.Native.Nat.{ℕ, ◌+◌, ◌≤◌, ◌<◌}
 use native.Mathlib.Omega.{arith}
 use lib.Dec.{ltb}
 use borrow.Author.Tests.{lt-ltb, le-ltb}
 use lib.ListN.{length, drop, replicate, length-append}
 use lib.Seq.{slice, take-length}
+use Rattle.std.specs.Prelude.{Some, None}
 use Rattle.layout.proofs.Overwrite.{overwrite_fits}
 use Rattle.accounts.specs.Accounts.{plain}
 use Rattle.model.specs.Calls.{open_heap}
@@ -18,7 +18,6 @@ use Rattle.replay_model.specs.Commands.{Opening, line_opening}
 use Rattle.replay_model.specs.Replay.{LONGEST, OUTPUT, bad_line, run_opened, run_opening, run_input, replay}
 use Rattle.replay_text.specs.Answer.{Result, replayed}
 use Rattle.replay_text.specs.Clauses.{FirstMark, Room, Put}
-use Rattle.replay_text.specs.declared.Replayed.TheVariants.{Written, TooShort}
 use Rattle.replay_text.proofs.Marks.{split_last, split_more}
 use Rattle.replay_text.proofs.LineRuns.{split_some}
 use Rattle.replay_model.proofs.Bounds.{replay_fits}
@@ -42,11 +41,11 @@ module _ (input : List ℕ) (end : ℕ) (m : FirstMark LINE_FEED 0 (length input
         ∙ ap run_input (split_more LINE_FEED (length input) input (omega arith) 0 end h m)
         ∙ rw x.2
 
-    pub input_bad : line_opening (slice 0 end input) ≡ none → bad_line ≡ run_input (lines input)
+    pub input_bad : line_opening (slice 0 end input) ≡ None → bad_line ≡ run_input (lines input)
     unfolding run_opening
     input_bad e = sym (first_line ∙ rw e)
 
-    pub input_opens : (o : Opening) → line_opening (slice 0 end input) ≡ some o
+    pub input_opens : (o : Opening) → line_opening (slice 0 end input) ≡ Some o
         → run_opened (open_heap plain (replicate o.heap 0) o.grants) (lines (slice (end + 1) (length input) input)) ≡ run_input (lines input)
     unfolding run_opening
     input_opens o e = sym (first_line ∙ rw e)
@@ -57,20 +56,20 @@ module _ (s out : List ℕ) (long : OUTPUT ≤ length out) where
   replay_room = record { fits = omega (arith, replay_fits s) }
 
   -- what is written is the replay, and the rest of the output stays
-  pub replay_written : (out' : List ℕ) (r : ℕ) → Put 0 (replay s) out out' r → record { answer = Written r; output = out' } ≡ replayed s out
+  pub replay_written : (out' : List ℕ) (r : ℕ) → Put 0 (replay s) out out' r → record { answer = Some r; output = out' } ≡ replayed s out
   unfolding replayed
   replay_written out' r p =
       let n : r ≡ length (replay s) = omega (arith, p.next) in
       let b : out' ≡ replay s ++ drop (length (replay s)) out =
       p.bytes ∙ overwrite_fits 0 (replay s) out (omega (arith, replay_fits s)) ∙ ap (λ (k : ℕ). replay s ++ drop k out) zero_add in
-      (λ i. record { answer = Written (n i); output = b i })
-      ∙ sym (ap (λ (t : Bool). cond t (record { answer = TooShort; output = out })
-      (record { answer = Written (length (replay s)); output = replay s ++ drop (length (replay s)) out })) (le-ltb (length out) OUTPUT long))
+      (λ i. record { answer = Some (n i); output = b i })
+      ∙ sym (ap (λ (t : Bool). cond t (record { answer = None; output = out })
+      (record { answer = Some (length (replay s)); output = replay s ++ drop (length (replay s)) out })) (le-ltb (length out) OUTPUT long))
     where
       zero_add : 0 + length (replay s) ≡ length (replay s)
       zero_add = omega arith
 
-pub replay_short : (s out : List ℕ) → length out < OUTPUT → record { answer = TooShort; output = out } ≡ replayed s out
+pub replay_short : (s out : List ℕ) → length out < OUTPUT → record { answer = None; output = out } ≡ replayed s out
 unfolding replayed
 replay_short s out h = sym (rw (lt-ltb (length out) OUTPUT h))
 
@@ -84,21 +83,21 @@ unfolding replay
 replay_runs s h = sym (rw (le-ltb LONGEST (length s) h))
 
 -- a replay writes no more bytes than the output has
-pub replayed_counts : (s out out' : List ℕ) (n : ℕ) → record { answer = Written n; output = out' } ≡ replayed s out → n ≤ length out'
+pub replayed_counts : (s out out' : List ℕ) (n : ℕ) → record { answer = Some n; output = out' } ≡ replayed s out → n ≤ length out'
 unfolding replayed
 replayed_counts s out out' n e = go (ltb (length out) OUTPUT) e
   where
     go : (t : Bool)
-        → ◌≡◌ {A = Result} (record { answer = Written n; output = out' })
-        (cond t (record { answer = TooShort; output = out }) (record
-        { answer = Written (length (replay s)); output = replay s ++ drop (length (replay s)) out }))
+        → ◌≡◌ {A = Result} (record { answer = Some n; output = out' })
+        (cond t (record { answer = None; output = out }) (record
+        { answer = Some (length (replay s)); output = replay s ++ drop (length (replay s)) out }))
         → n ≤ length out'
     go true f =
-        let q : Written n ≡ TooShort = ap (λ (r : Result). r.answer) f in
+        let q : Some n ≡ None = ap (λ (r : Result). r.answer) f in
         let z : ◌≡◌ {A = ℕ} 0 1 = cc in
         absurd (omega arith)
     go false f =
-        let a : Written n ≡ Written (length (replay s)) = ap (λ (r : Result). r.answer) f in
+        let a : Some n ≡ Some (length (replay s)) = ap (λ (r : Result). r.answer) f in
         let c : n ≡ length (replay s) = cc in
         let l : length out' ≡ length (replay s) + length (drop (length (replay s)) out) =
         ap (λ (r : Result). length r.output) f ∙ length-append (replay s) (drop (length (replay s)) out) in

@@ -1,8 +1,8 @@
 -- The run of the lines from a place on, by where the next line ends: the end of the input, another kind of line, or a call and the lines behind it.
+use Rattle.std.specs.Prelude.{Some, None}
 use mathlib.Core.Path.{◌≡◌, refl, ap, sym, ◌∙◌}
 use mathlib.Core.List.{List, [], ◌∷◌, ◌++◌}
 use mathlib.Core.Bool.{Bool, true, false, cond}
-use mathlib.Core.Option.{none, some}
 use Prim.Native.Nat.{ℕ, ◌+◌, ◌<◌}
 use native.Mathlib.Omega.{arith}
 use lib.Dec.{eqb}
@@ -69,12 +69,12 @@ module _ (from : ℕ) (input : List ℕ) (s : List ℕ) (k : Accounts) (end : �
         ap (λ (ls : List (List ℕ)). run_lines ls s k) (split_more LINE_FEED (length input) input (omega arith) from end h m)
         ∙ run_first (slice from end input) (lines (slice (end + 1) (length input) input)) s k (split_some LINE_FEED (slice (end + 1) (length input) input))
 
-    pub run_bad : line_call (slice from end input) ≡ none → run_lines (lines (slice from (length input) input)) s k ≡ bad_line
+    pub run_bad : line_call (slice from end input) ≡ None → run_lines (lines (slice from (length input) input)) s k ≡ bad_line
     unfolding on_call
     run_bad e = next ∙ rw e
 
     -- a call, which gives an outcome
-    pub run_next : (c : Call) (s' : List ℕ) (k' : Accounts) (v : Values) → line_call (slice from end input) ≡ some c
+    pub run_next : (c : Call) (s' : List ℕ) (k' : Accounts) (v : Values) → line_call (slice from end input) ≡ Some c
         → record { heap = s'; accounts = k'; values = v } ≡ own_step c s k
         → run_lines (lines (slice from (length input) input)) s k ≡ answer_line c v ++ run_lines (lines (slice (end + 1) (length input) input)) s' k'
     unfolding on_call

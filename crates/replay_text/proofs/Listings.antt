@@ -1,7 +1,8 @@
 -- The list at the end: a state that a history leads to passes the check, so that the listing's call gives its blocks one after the other.
+use Rattle.model.specs.declared.Refusal.{Refusal}
+use Rattle.std.specs.Prelude.{Some, None, Option, Result, Ok}
 use mathlib.Core.Path.{◌≡◌, refl, ap, sym, subst, ◌∙◌}
 use mathlib.Core.List.{List, [], ◌∷◌, ◌++◌, append-nil}
-use mathlib.Core.Option.{none, some}
 use Prim.Native.Nat.{ℕ, ◌+◌, ◌≤◌}
 use native.Mathlib.Omega.{arith}
 use lib.ListN.{length}
@@ -14,8 +15,6 @@ use Rattle.model.specs.Answers.{block_values}
 use Rattle.model.specs.Objects.{blocks_of}
 use Rattle.model.specs.Calls.{Outcome, listing_from, list_block}
 use Rattle.model.specs.declared.ListedBlock.{ListedBlock}
-use Rattle.model.specs.declared.BlockAnswer.{BlockAnswer}
-use Rattle.model.specs.declared.BlockAnswer.TheVariants.{Listed}
 use Rattle.lists.proofs.Lists.{total_append}
 use Rattle.model.proofs.Listing.{listed_at, block_at, list_block_step, step_at, step_end}
 use Rattle.results.specs.Results.{outcome}
@@ -25,15 +24,15 @@ use Rattle.replay_model.specs.Events.{Reached}
 use Rattle.replay_model.proofs.Reaching.{reached_checked}
 
 -- what the listing's call gives at a place of a state that a history leads to
-module _ (s : List ℕ) (k : Accounts) (r : Reached s k) (place : ℕ) (b : BlockAnswer)
+module _ (s : List ℕ) (k : Accounts) (r : Reached s k) (place : ℕ) (b : Result (Option ListedBlock) Refusal)
     (told : outcome s k (block_values b) ≡ list_block (table k.edition) s k place) where
   pub given_at : (block_values b).block ≡ block_at (blocks_of s) place
   given_at = ap (λ (o : Outcome). o.values.block) (told ∙ list_block_step (table k.edition) s k place (reached_checked s k r))
 
-  pub given_ends : (l : ListedBlock) → b ≡ Listed l → l.offset + l.size ≤ length s
+  pub given_ends : (l : ListedBlock) → b ≡ Ok (Some l) → l.offset + l.size ≤ length s
   unfolding block_values
   given_ends l e = given_inside (table k.edition) s k place l
-      (sym (ap (λ (o : Outcome). o.values.block) told) ∙ ap (λ (x : BlockAnswer). (block_values x).block) e)
+      (sym (ap (λ (o : Outcome). o.values.block) told) ∙ ap (λ (x : Result (Option ListedBlock) Refusal). (block_values x).block) e)
 
 -- of the blocks bs, the blocks ys are left, and begin at a place
 pub record Passing (bs : List Block) (place : ℕ) (ys : List Block) : Type 0 where
@@ -52,17 +51,17 @@ passing_more bs place y ys p =
     record { front = p.front ++ (y ∷ []); whole = p.whole ∙ sym (append_snoc p.front y ys); starts = rw total_append (omega arith) }
 
 -- the call gives the first of them, and none where none is left
-passing_at : (bs : List Block) (place : ℕ) (y : Block) (ys : List Block) → Passing bs place (y ∷ ys) → block_at bs place ≡ some (listed_at place y)
+passing_at : (bs : List Block) (place : ℕ) (y : Block) (ys : List Block) → Passing bs place (y ∷ ys) → block_at bs place ≡ Some (listed_at place y)
 passing_at bs place y ys p =
-    (λ i. block_at (p.whole i) (p.starts i)) ∙ step_at p.front y ys ∙ ap (λ (n : ℕ). some (listed_at n y)) (sym p.starts)
+    (λ i. block_at (p.whole i) (p.starts i)) ∙ step_at p.front y ys ∙ ap (λ (n : ℕ). Some (listed_at n y)) (sym p.starts)
 
-passing_end : (bs : List Block) (place : ℕ) → Passing bs place [] → block_at bs place ≡ none
+passing_end : (bs : List Block) (place : ℕ) → Passing bs place [] → block_at bs place ≡ None
 passing_end bs place p =
     let q = p.starts in
     let e : bs ≡ p.front = p.whole ∙ append-nil p.front in
     step_end bs place (rw e (omega arith))
 
-pub passing_none : (bs : List Block) (place : ℕ) (ys : List Block) → Passing bs place ys → block_at bs place ≡ none → ys ≡ []
+pub passing_none : (bs : List Block) (place : ℕ) (ys : List Block) → Passing bs place ys → block_at bs place ≡ None → ys ≡ []
 passing_none bs place [] p e = refl
 passing_none bs place (y ∷ ys) p e =
     let q = passing_at bs place y ys p in
@@ -76,7 +75,7 @@ pub record Next (ys : List Block) (place : ℕ) (l : ListedBlock) : Type 0 where
   pub split : ys ≡ block ∷ behind
   pub is : listed_at place block ≡ l
 
-pub passing_some : (bs : List Block) (place : ℕ) (ys : List Block) (l : ListedBlock) → Passing bs place ys → block_at bs place ≡ some l → Next ys place l
+pub passing_some : (bs : List Block) (place : ℕ) (ys : List Block) (l : ListedBlock) → Passing bs place ys → block_at bs place ≡ Some l → Next ys place l
 passing_some bs place [] l p e =
     let q = passing_end bs place p in
     let z : ◌≡◌ {A = ℕ} 0 1 = cc in

@@ -28,6 +28,9 @@ absent_more mark from to s a n i h l e = go (ltb i to) refl
         let p : to ≡ i = omega (arith, ltb-false i to q) in
         n (ap (λ (j : ℕ). get_or s j 0) p ∙ e)
 
+pub absent_at : (mark from at end : ℕ) (s : List ℕ) → end ≤ at → Absent mark from at s → Absent mark from end s
+absent_at mark from at end s e a i h l = a i h (omega arith)
+
 -- the parts of what stands from a place up to another, where the first mark is at r or there is none
 module _ (mark to : ℕ) (s : List ℕ) (k : to ≤ length s) where
   skip : (from : ℕ) → from < to → (get_or s from 0 ≡ mark → ⊥) → split mark (slice from to s)

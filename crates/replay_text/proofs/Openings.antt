@@ -1,4 +1,6 @@
 -- An opening's verdict decides the run: a refusal is printed, and else the lines are run on a state that a history reaches. A heap that is too long is refused.
+use Rattle.std.specs.Prelude.{Result, Ok, Err}
+use Rattle.model.specs.declared.Refusal.{Refusal}
 use mathlib.Core.Path.{◌≡◌, refl, ap, sym, ◌∙◌}
 use mathlib.Core.List.{List, [], ◌∷◌, ◌++◌}
 use mathlib.Core.Bool.{Bool, false, cond, ◌&&◌}
@@ -15,8 +17,6 @@ use Rattle.model.specs.Consistent.{allowed}
 use Rattle.model.specs.Refusals.{first_refusal, line_1, open_lines}
 use Rattle.accounts.specs.Accounts.{plain}
 use Rattle.model.specs.Calls.{Outcome, unless, open_heap}
-use Rattle.model.specs.declared.Verdict.{Verdict}
-use Rattle.model.specs.declared.Verdict.TheVariants.{Accepted, Refused}
 use Rattle.lists.proofs.Bools.{and_no}
 use Rattle.model.proofs.Answers.{refusal_number_is}
 use Rattle.ledger.specs.History.{Opening as Begun}
@@ -27,20 +27,20 @@ use Rattle.replay_text.specs.Clauses.{Zeros}
 use Rattle.replay_text.specs.Answered.{verdict_refusal}
 
 -- a verdict's refusal is that of its values, and none where it is accepted
-verdict_is : (v : Verdict) → verdict_refusal v ≡ (verdict_values v).refusal
+verdict_is : (v : Result (Unit {0}) Refusal) → verdict_refusal v ≡ (verdict_values v).refusal
 unfolding verdict_values
-verdict_is Accepted = refl
-verdict_is (Refused r) = refl
+verdict_is (Ok tt) = refl
+verdict_is (Err r) = refl
 
-verdict_accepted : (v : Verdict) → verdict_refusal v ≡ 0 → verdict_values v ≡ accepted
+verdict_accepted : (v : Result (Unit {0}) Refusal) → verdict_refusal v ≡ 0 → verdict_values v ≡ accepted
 unfolding verdict_values
-verdict_accepted Accepted e = refl
-verdict_accepted (Refused r) e =
+verdict_accepted (Ok tt) e = refl
+verdict_accepted (Err r) e =
     let p = (refusal_number_is r).1 in
     absurd (omega arith)
 
 -- an opening that gave this verdict
-module _ (s grants s' : List ℕ) (k : Accounts) (v : Verdict) (told : outcome s' k (verdict_values v) ≡ open_heap plain s grants) (n : ℕ)
+module _ (s grants s' : List ℕ) (k : Accounts) (v : Result (Unit {0}) Refusal) (told : outcome s' k (verdict_values v) ≡ open_heap plain s grants) (n : ℕ)
     (e : n ≡ verdict_refusal v) where
   pub opened_refused : (ls : List (List ℕ)) → (n ≡ 0 → ⊥) → no_line n ≡ run_opened (open_heap plain s grants) ls
   unfolding run_opened

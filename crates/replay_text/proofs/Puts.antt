@@ -1,13 +1,14 @@
 -- Texts written behind each other are one text: room for both is room for each, and the two writes are the write of the whole.
 use mathlib.Core.Path.{◌≡◌, refl, ap, sym, ◌∙◌}
 use mathlib.Core.List.{List, [], ◌∷◌, ◌++◌, append_assoc}
-use Prim.Native.Nat.{ℕ, suc, ◌+◌, ◌≤◌, ◌<◌}
+use Prim.Native.Nat.{ℕ, suc, ◌+◌, ◌-◌, ◌≤◌}
 use native.Mathlib.Omega.{arith}
 use native.Mathlib.Numerals.{add-one}
-use lib.ListN.{length, take, drop, set, get_or, length-append}
-use lib.Seq.{length-take-le, set-append_left, take-set-lt, take-suc-set, take-suc, take_all}
+use lib.ListN.{length, take, drop, set, length-append}
+use borrow.Rule.Slice.PartMut.{put_mid}
+use lib.Seq.{drop-drop, length-take-le, set-append_left, take-set-lt, take-suc-set}
 use Rattle.layout.specs.Bytes.{overwrite}
-use Rattle.layout.proofs.Overwrite.{overwrite_fits, overwrite_nil, overwrite_one, overwrite_two, overwrite_more, length_overwrite}
+use Rattle.layout.proofs.Overwrite.{overwrite_fits, overwrite_one, overwrite_two, length_overwrite}
 use Rattle.replay_text.specs.Clauses.{Room, Put}
 
 -- the length stays
@@ -58,21 +59,9 @@ overwrite_before at b text s h =
     ∙ append_assoc (take at s) (b ∷ []) (text ++ drop (at + 1 + length text) s)
     ∙ sym (overwrite_fits at (b ∷ text) s (omega arith) ∙ ap (λ (n : ℕ). take at s ++ (b ∷ (text ++ drop n s))) n)
 
--- the loop that writes a text: the first i bytes of it are written
-pub text_start : (at : ℕ) (text s : List ℕ) → s ≡ overwrite at (take 0 text) s
-text_start at text s = sym (overwrite_nil at s)
-
-pub text_length : (at i : ℕ) (text s s' : List ℕ) → s' ≡ overwrite at (take i text) s → length s' ≡ length s
-text_length at i text s s' e = ap length e ∙ length_overwrite at (take i text) s
-
-pub text_more : (at i : ℕ) (text s s' : List ℕ) → Room at text s → i < length text → s' ≡ overwrite at (take i text) s
-    → set s' (at + i) (get_or text i 0) ≡ overwrite at (take (i + 1) text) s
-text_more at i text s s' h l e =
+-- a text copied to the part of an output that it fills
+pub text_put : (at : ℕ) (text s new : List ℕ) → Room at text s → new ≡ text → Put at text s (put_mid at (at + length text - at) s new) (at + length text)
+text_put at text s new h e =
     let f = h.fits in
-    ap (λ (x : List ℕ). set x (at + i) (get_or text i 0)) e
-    ∙ overwrite_more at (take i text) s i (get_or text i 0) (length-take-le i text (omega arith)) (omega arith)
-    ∙ ap (λ (x : List ℕ). overwrite at x s) (sym (rw add-one (take-suc text i 0 l)))
-
-pub text_end : (at i : ℕ) (text s s' : List ℕ) → length text ≤ i → i ≤ length text → s' ≡ overwrite at (take i text) s → Put at text s s' (at + i)
-text_end at i text s s' h l e =
-    record { bytes = e ∙ ap (λ (x : List ℕ). overwrite at x s) (take_all i text h); next = omega arith }
+    let k : at + length text - at ≡ length text = omega arith in
+    record { bytes = rw (k, e, drop-drop (length text) at s) (sym (overwrite_fits at text s f)); next = refl }

@@ -8,59 +8,56 @@ ghost use Rattle.replay_model.specs.Replay.{tail_of, ok_line, no_line, bad_line,
 ghost use Rattle.replay_text.specs.Clauses.{Put, Room};
 
 use crate::{digits, output};
-use model::{
-    AmountAnswer, Answer, BlockAnswer, Call, Handle, HandleAnswer, ListedBlock, RangeAnswer,
-    Verdict,
-};
+use model::{Answer, Call, Handle, ListedBlock, Range, Refusal};
 
 // The refusal's number of a verdict, 0 where it is accepted.
-pub(crate) fn verdict_refusal(answer: Verdict) -> u32
+pub(crate) fn verdict_refusal(answer: Result<(), Refusal>) -> u32
     ensures { result ≡ verdict_refusal answer }
 {
     match answer {
-        Verdict::Accepted => 0,
-        Verdict::Refused(refusal) => refusal.number(),
+        Ok(()) => 0,
+        Err(refusal) => refusal.number(),
     }
 }
 
 // The same of an answer with a handle.
-fn handle_refusal(answer: HandleAnswer) -> u32
+fn handle_refusal(answer: Result<Handle, Refusal>) -> u32
     ensures { result ≡ handle_refusal answer }
 {
     match answer {
-        HandleAnswer::Given(_) => 0,
-        HandleAnswer::Refused(refusal) => refusal.number(),
+        Ok(_) => 0,
+        Err(refusal) => refusal.number(),
     }
 }
 
 // The same of an answer with an amount.
-fn amount_refusal(answer: AmountAnswer) -> u32
+fn amount_refusal(answer: Result<u32, Refusal>) -> u32
     ensures { result ≡ amount_refusal answer }
 {
     match answer {
-        AmountAnswer::Amount(_) => 0,
-        AmountAnswer::Refused(refusal) => refusal.number(),
+        Ok(_) => 0,
+        Err(refusal) => refusal.number(),
     }
 }
 
 // The same of an answer with a range.
-fn range_refusal(answer: RangeAnswer) -> u32
+fn range_refusal(answer: Result<Range, Refusal>) -> u32
     ensures { result ≡ range_refusal answer }
 {
     match answer {
-        RangeAnswer::Lent(_) => 0,
-        RangeAnswer::Refused(refusal) => refusal.number(),
+        Ok(_) => 0,
+        Err(refusal) => refusal.number(),
     }
 }
 
 // The same of an answer with a block.
-fn block_refusal(answer: BlockAnswer) -> u32
+fn block_refusal(answer: Result<Option<ListedBlock>, Refusal>) -> u32
     ensures { result ≡ block_refusal answer }
 {
     match answer {
-        BlockAnswer::Listed(_) => 0,
-        BlockAnswer::NoBlock => 0,
-        BlockAnswer::Refused(refusal) => refusal.number(),
+        Ok(Some(_)) => 0,
+        Ok(None) => 0,
+        Err(refusal) => refusal.number(),
     }
 }
 
@@ -89,12 +86,12 @@ fn zero_handle() -> Handle
 }
 
 // The handle that is given, of zeros where the call is refused.
-fn given_handle(answer: HandleAnswer) -> Handle
+fn given_handle(answer: Result<Handle, Refusal>) -> Handle
     ensures { result ≡ given_handle answer }
 {
     match answer {
-        HandleAnswer::Given(handle) => handle,
-        HandleAnswer::Refused(_) => zero_handle(),
+        Ok(handle) => handle,
+        Err(_) => zero_handle(),
     }
 }
 
@@ -103,21 +100,18 @@ fn handle_in(answer: Answer) -> Handle
     ensures { result ≡ answer_handle answer }
 {
     match answer {
-        Answer::Verdict(_) => zero_handle(),
         Answer::Handle(a) => given_handle(a),
-        Answer::Amount(_) => zero_handle(),
-        Answer::Range(_) => zero_handle(),
-        Answer::Block(_) => zero_handle(),
+        _ => zero_handle(),
     }
 }
 
 // The amount that is given, 0 where the call is refused.
-fn given_amount(answer: AmountAnswer) -> u32
+fn given_amount(answer: Result<u32, Refusal>) -> u32
     ensures { result ≡ given_amount answer }
 {
     match answer {
-        AmountAnswer::Amount(amount) => amount,
-        AmountAnswer::Refused(_) => 0,
+        Ok(amount) => amount,
+        Err(_) => 0,
     }
 }
 
@@ -126,11 +120,8 @@ fn amount_in(answer: Answer) -> u32
     ensures { result ≡ answer_amount answer }
 {
     match answer {
-        Answer::Verdict(_) => 0,
-        Answer::Handle(_) => 0,
         Answer::Amount(a) => given_amount(a),
-        Answer::Range(_) => 0,
-        Answer::Block(_) => 0,
+        _ => 0,
     }
 }
 
@@ -138,40 +129,10 @@ fn amount_in(answer: Answer) -> u32
 fn answers_handle(call: Call) -> bool
     ensures { result ≡ gives_handle call }
 {
-    match call {
-        Call::Allocate {
-            quota: _,
-            length: _,
-        } => true,
-        Call::AllocateArray {
-            quota: _,
-            count: _,
-            size: _,
-        } => true,
-        Call::Claim {
-            quota: _,
-            handle: _,
-        } => false,
-        Call::Release {
-            quota: _,
-            handle: _,
-        } => false,
-        Call::FreeAll { quota: _ } => false,
-        Call::Sweep => false,
-        Call::Reallocate {
-            quota: _,
-            handle: _,
-            length: _,
-        } => true,
-        Call::Lend { handle: _ } => false,
-        Call::Remaining { quota: _ } => false,
-        Call::CanRelease {
-            quota: _,
-            handle: _,
-        } => false,
-        Call::ListBlock { at: _ } => false,
-        Call::ClearPermissions { quota: _, bits: _ } => false,
-    }
+    matches!(
+        call,
+        Call::Allocate { .. } | Call::AllocateArray { .. } | Call::Reallocate { .. }
+    )
 }
 
 // A space and a number, and the line feed.

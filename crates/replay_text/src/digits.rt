@@ -1,17 +1,15 @@
 // Numbers in decimal: a number is written as digits, and the digits of a word are read.
 ghost use Rattle.std.specs.Prelude.{◌≡◌, ◌+◌, ◌≤◌, length};
-ghost use Rattle.std.proofs.Math.Seq.{slice};
 ghost use Rattle.layout.specs.Bytes.{overwrite};
 ghost use Rattle.replay_model.specs.Text.{digits, places, decimal, read_on, read_number};
-ghost use Rattle.replay_text.specs.Clauses.{Put, Room, Within, number_value};
+ghost use Rattle.replay_text.specs.Clauses.{Put, Room, number_value};
 
-use crate::Number;
 use accounts::GREATEST_NUMBER;
 
 // The greatest number that is read, as wide as the next one may be.
 const GREATEST: u64 = GREATEST_NUMBER as u64;
 
-// How many digits a number has.
+// How many digits a number has. The loop is a `while`, since how often it turns is what it counts.
 fn count_digits(n: u32) -> usize
     ensures { result ≡ places 9 n }
 {
@@ -29,13 +27,11 @@ fn put_digits(output: &mut [u8], at: usize, count: usize, n: u32)
     requires { at + count ≤ length output.old }
     ensures { output.new ≡ overwrite at (digits count n) output.old }
 {
-    let mut left = count;
     let mut rest = n;
-    while 0 < left {
-        left -= 1;
+    for left in (0..count).rev() {
         let digit = 48 + rest % 10;
         output[at + left] = digit as u8;
-        rest = rest / 10;
+        rest /= 10;
     }
 }
 
@@ -49,51 +45,38 @@ pub(crate) fn put_number(output: &mut [u8], at: usize, n: u32) -> usize
     at + count
 }
 
-// A byte as a wider number.
-fn wide(byte: u8) -> u64
-    ensures { result ≡ byte }
-{
-    byte as u64
-}
-
-// The number of the digits from a place up to another.
-fn read_digits(input: &[u8], from: usize, to: usize) -> Number
-    requires { Within from to input.now }
-    ensures { number_value result ≡ read_on 0 (slice from to input.now) }
+// The number of a word's digits.
+fn read_digits(word: &[u8]) -> Option<u32>
+    ensures { number_value result ≡ read_on 0 word.now }
 {
     let mut value: u64 = 0;
-    let mut at = from;
-    while at < to {
-        let byte = wide(input[at]);
+    for byte in word {
+        let byte = u64::from(*byte);
         if byte < 48 {
-            return Number::Nothing;
+            return None;
         }
         if 57 < byte {
-            return Number::Nothing;
+            return None;
         }
         let next = value * 10 + (byte - 48);
         if GREATEST < next {
-            return Number::Nothing;
+            return None;
         }
         value = next;
-        at += 1;
     }
-    Number::Value(value as u32)
+    Some(value as u32)
 }
 
-// The number that the word from a place up to another is: digits, and no zero in front of others.
-pub(crate) fn read_number(input: &[u8], from: usize, to: usize) -> Number
-    requires { Within from to input.now }
-    ensures { number_value result ≡ read_number (slice from to input.now) }
+// The number that a word is: digits, and no zero in front of others.
+#[tactic(auto, using(crate::proofs::Reading::number_words))]
+pub(crate) fn read_number(word: &[u8]) -> Option<u32>
+    ensures { number_value result ≡ read_number word.now }
 {
-    if from == to {
-        return Number::Nothing;
+    if word.is_empty() {
+        return None;
     }
-    if input[from] != 48 {
-        return read_digits(input, from, to);
+    if word[0] == 48 && 1 < word.len() {
+        return None;
     }
-    if 1 < to - from {
-        return Number::Nothing;
-    }
-    read_digits(input, from, to)
+    read_digits(word)
 }

@@ -2,7 +2,6 @@
 #![tactic(auto)]
 
 use accounts::QUOTAS;
-use model::Call;
 use replay_model::Word;
 
 mod answers;
@@ -24,60 +23,31 @@ pub const OUTPUT: usize = 589824;
 // The most numbers that a line has: those of an opening, the heap's length and the grants.
 pub(crate) const MOST: usize = QUOTAS + 1;
 
-// What a word is as a number.
-#[derive(Clone, Copy)]
-pub(crate) enum Number {
-    Value(u32),
-    Nothing,
-}
-
-// How many numbers the words behind a name are.
-#[derive(Clone, Copy)]
-pub(crate) enum Count {
-    Read(usize),
-    Nothing,
-}
-
-// A line as a name and numbers, the first `count` of `values`; not ok where what stands behind the name is no numbers, or more than any line has.
+// A line as a name and numbers, the first `count` of `values`.
 #[derive(Clone, Copy)]
 pub(crate) struct Line {
-    ok: bool,
     name: Word,
     count: usize,
     values: [u32; MOST],
 }
 
-// The call that a line asks for.
+// The opening that a line asks for: the heap's length and the grants.
 #[derive(Clone, Copy)]
-pub(crate) enum Asked {
-    Call(Call),
-    Nothing,
-}
-
-// The opening that a line asks for: the heap's length and the grants, where the line is ok.
-#[derive(Clone, Copy)]
-pub(crate) struct OpenLine {
-    ok: bool,
+pub(crate) struct Opening {
     heap: u32,
     grants: [u32; QUOTAS],
 }
 
-// The answer of a replay: how many bytes of the output are written, or that the output is shorter than OUTPUT.
-#[derive(Clone, Copy)]
-pub enum Replayed {
-    Written(usize),
-    TooShort,
-}
-
-// The replay of an input: what the lines print, at the front of the output; nothing where the output is too short.
-pub fn replay(input: &[u8], output: &mut [u8]) -> Replayed
+// The replay of an input: what the lines print, at the front of the output, and how many bytes these are; nothing is
+// written to an output that is shorter than OUTPUT.
+pub fn replay(input: &[u8], output: &mut [u8]) -> Option<usize>
     ensures { record { answer = result; output = output.new } ≡ replayed input.now output.old }
 {
     if output.len() < OUTPUT {
-        return Replayed::TooShort;
+        return None;
     }
     if LONGEST < input.len() {
-        return Replayed::Written(answers::put_bad(output, 0));
+        return Some(answers::put_bad(output, 0));
     }
-    Replayed::Written(run::run_all(input, output))
+    Some(run::run_all(input, output))
 }

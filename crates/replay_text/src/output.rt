@@ -19,12 +19,9 @@ pub(crate) fn put_text(output: &mut [u8], at: usize, text: &[u8]) -> usize
     requires { Room at text.now output.old }
     ensures { Put at text.now output.old output.new result }
 {
-    let mut i: usize = 0;
-    while i < text.len() {
-        output[at + i] = text[i];
-        i += 1;
-    }
-    at + i
+    let end = at + text.len();
+    output[at..end].copy_from_slice(text);
+    end
 }
 
 // A space and a number.

@@ -9,10 +9,10 @@ ghost use Rattle.replay_model.specs.Replay.{heap_lines, ending, run_lines, run_o
 ghost use Rattle.replay_text.specs.Clauses.{Room, Put, Zeros};
 ghost use Rattle.replay_model.specs.Events.{Reached, Granted};
 
-use crate::{Asked, answers, commands, tokens};
+use crate::{answers, commands, tokens};
 use accounts::{Accounts, QUOTAS};
 use layout::GREATEST_HEAP;
-use model::BlockAnswer;
+use model::Refusal;
 
 // The lines of the heap's blocks, in order.
 fn put_blocks(heap: &[u8], accounts: Accounts, output: &mut [u8], at: usize) -> usize
@@ -22,11 +22,14 @@ fn put_blocks(heap: &[u8], accounts: Accounts, output: &mut [u8], at: usize) -> 
     let mut place: usize = 0;
     let mut next = at;
     loop {
-        let BlockAnswer::Listed(block) = heap::list_from(heap, accounts, place) else {
-            return next;
-        };
-        next = answers::put_block(output, next, block);
-        place = block.offset + block.size;
+        match heap::list_from(heap, accounts, place) {
+            Ok(Some(block)) => {
+                next = answers::put_block(output, next, block);
+                place = block.offset + block.size;
+            }
+            Ok(None) => return next,
+            Err(_) => return next,
+        }
     }
 }
 
@@ -69,11 +72,11 @@ fn run_calls(
     let mut place = at;
     let mut current = accounts;
     loop {
-        let end = tokens::find_mark(input, start, len, 10);
+        let end = tokens::find_mark(input, start, 10);
         if end == len {
             return put_ending(input, start, heap, current, output, place);
         }
-        let Asked::Call(call) = commands::read_call(input, start, end) else {
+        let Some(call) = commands::read_call(&input[start..end]) else {
             return answers::put_bad(output, place);
         };
         let done = heap::perform(heap, current, call);
@@ -142,14 +145,12 @@ pub(crate) fn run_all(input: &[u8], output: &mut [u8]) -> usize
     ensures { Put 0 (run_input (lines input.now)) output.old output.new result }
 {
     let len = input.len();
-    let end = tokens::find_mark(input, 0, len, 10);
+    let end = tokens::find_mark(input, 0, 10);
     if end == len {
         return answers::put_bad(output, 0);
     }
-    let line = commands::read_opening(input, 0, end);
-    if !line.ok {
+    let Some(opening) = commands::read_opening(&input[..end]) else {
         return answers::put_bad(output, 0);
-    }
-    let grants = line.grants;
-    run_opening(input, end + 1, line.heap, grants, output)
+    };
+    run_opening(input, end + 1, opening.heap, opening.grants, output)
 }

@@ -1,70 +1,47 @@
 // Words of a line: where they end, and which name a word is.
-ghost use Rattle.std.specs.Prelude.{◌≡◌};
-ghost use Rattle.std.proofs.Math.Seq.{slice};
-ghost use Rattle.replay_model.specs.Text.{same};
+ghost use Rattle.std.specs.Prelude.{◌≡◌, ◌≤◌, length};
 ghost use Rattle.replay_model.specs.Commands.{word_of};
-ghost use Rattle.replay_text.specs.Clauses.{Within, FirstMark};
+ghost use Rattle.replay_text.specs.Clauses.{FirstMark};
 
 use replay_model::Word;
 
-// The first place of a byte from a place up to another, and the other where there is none.
-pub(crate) fn find_mark(input: &[u8], from: usize, to: usize, mark: u8) -> usize
-    requires { Within from to input.now }
-    ensures { FirstMark mark from to input.now result }
+// The first place of a byte from a place on, and the input's end where there is none.
+pub(crate) fn find_mark(input: &[u8], from: usize, mark: u8) -> usize
+    requires { from ≤ length input.now }
+    ensures { FirstMark mark from (length input.now) input.now result }
 {
-    let mut at = from;
-    while at < to {
+    for at in from..input.len() {
         if input[at] == mark {
             return at;
         }
-        at += 1;
     }
-    at
+    input.len()
 }
 
-// Whether the word from a place up to another is this one.
-fn is_same(input: &[u8], from: usize, to: usize, word: &[u8]) -> bool
-    requires { Within from to input.now }
-    ensures { result ≡ same (slice from to input.now) word.now }
+// The name that a word is.
+#[tactic(auto, using(crate::proofs::Reading::bytes_same), unfolding(replay_model::specs::Commands::word_of))]
+pub(crate) fn read_word(word: &[u8]) -> Word
+    ensures { result ≡ word_of word.now }
 {
-    let len = word.len();
-    if to - from != len {
-        return false;
-    }
-    let mut i: usize = 0;
-    while i < len {
-        if input[from + i] != word[i] {
-            return false;
-        }
-        i += 1;
-    }
-    true
-}
-
-// The name that the word from a place up to another is.
-pub(crate) fn read_word(input: &[u8], from: usize, to: usize) -> Word
-    requires { Within from to input.now }
-    ensures { result ≡ word_of (slice from to input.now) }
-{
-    if is_same(input, from, to, b"open") {
+    if word == b"open".as_slice() {
         return Word::Open;
     }
-    if is_same(input, from, to, b"alloc") {
+    if word == b"alloc".as_slice() {
         return Word::Alloc;
     }
-    if is_same(input, from, to, b"array") {
+    if word == b"array".as_slice() {
         return Word::Array;
     }
-    if is_same(input, from, to, b"claim") {
+    if word == b"claim".as_slice() {
         return Word::Claim;
     }
-    if is_same(input, from, to, b"free") {
+    if word == b"free".as_slice() {
         return Word::Free;
     }
-    if is_same(input, from, to, b"all") {
+    if word == b"all".as_slice() {
         return Word::All;
     }
-    if is_same(input, from, to, b"realloc") {
+    if word == b"realloc".as_slice() {
         return Word::Realloc;
     }
     Word::Unknown

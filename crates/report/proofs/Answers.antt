@@ -7,15 +7,13 @@ use native.Mathlib.Omega.{arith}
 use lib.ListN.{get_or}
 use lib.Dec.{eqb}
 use borrow.Author.Tests.{ne_eqb}
+use Rattle.std.specs.Prelude.{Result, Ok, Err}
 use Rattle.report.specs.Import.{report_refusal_number, ImportTold, grants_told, import_told}
 use Rattle.report.specs.Export.{Written, ExportTold, text_told, export_told}
 use Rattle.report.specs.declared.Imported.{Imported}
-use Rattle.report.specs.declared.ImportAnswer.{ImportAnswer}
-use Rattle.report.specs.declared.ImportAnswer.TheVariants.{Accepted, Refused as NotImported}
-use Rattle.report.specs.declared.ExportAnswer.{ExportAnswer}
-use Rattle.report.specs.declared.ExportAnswer.TheVariants.{Exported, Refused as NotExported}
 use Rattle.report.specs.declared.ReportRefusal.{ReportRefusal}
 use Rattle.report.specs.declared.ReportRefusal.TheVariants.{Character, Reserved, TooMany, Room}
+use Rattle.report.specs.declared.BadLine.{BadLine}
 use Rattle.report.proofs.Rows
 
 abbrev pub report_refusal_at : ℕ → ReportRefusal
@@ -44,14 +42,14 @@ answered_refused a refuse r =
     rw (e, n.0)
 
 -- of import
-import_answer : ImportTold → ImportAnswer
-import_answer t = answered Accepted (λ x. NotImported x t.line) t.refusal
+import_answer : ImportTold → Result (Unit {0}) BadLine
+import_answer t = answered (Ok tt) (λ x. Err (record { refusal = x; line = t.line })) t.refusal
 
-import_answer_is : (gs : List ℕ) (a : ImportAnswer)
+import_answer_is : (gs : List ℕ) (a : Result (Unit {0}) BadLine)
     → (import_answer (grants_told gs a) ≡ a) × ((grants_told gs a).grants ≡ gs)
 unfolding import_answer answered grants_told
-import_answer_is gs Accepted = (refl, refl)
-import_answer_is gs (NotImported r n) = (answered_refused Accepted (λ x. NotImported x n) r, refl)
+import_answer_is gs (Ok tt) = (refl, refl)
+import_answer_is gs (Err b) = (answered_refused (Ok tt) (λ x. Err (record { refusal = x; line = b.line })) b.refusal, refl)
 
 pub import_told_injective : (x y : Imported) → import_told x ≡ import_told y → x ≡ y
 import_told_injective x y e =
@@ -62,13 +60,13 @@ import_told_injective x y e =
     λ i. record { grants = g i; answer = a i }
 
 -- of export
-export_answer : ExportTold → ExportAnswer
-export_answer t = answered (Exported t.length) NotExported t.refusal
+export_answer : ExportTold → Result ℕ ReportRefusal
+export_answer t = answered (Ok t.length) Err t.refusal
 
-export_answer_is : (s : List ℕ) (a : ExportAnswer) → (export_answer (text_told s a) ≡ a) × ((text_told s a).text ≡ s)
+export_answer_is : (s : List ℕ) (a : Result ℕ ReportRefusal) → (export_answer (text_told s a) ≡ a) × ((text_told s a).text ≡ s)
 unfolding export_answer answered text_told
-export_answer_is s (Exported n) = (refl, refl)
-export_answer_is s (NotExported r) = (answered_refused (Exported 0) NotExported r, refl)
+export_answer_is s (Ok n) = (refl, refl)
+export_answer_is s (Err r) = (answered_refused (Ok 0) Err r, refl)
 
 pub export_told_injective : (v w : Written) → export_told v ≡ export_told w → v ≡ w
 export_told_injective v w e =

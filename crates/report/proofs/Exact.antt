@@ -6,6 +6,7 @@ use Prim.Native.Nat.{ℕ, zero, suc, ◌+◌, ◌-◌, ◌≤◌, ◌<◌}
 use native.Mathlib.Omega.{arith}
 use lib.ListN.{length, drop, replicate, length-append}
 use lib.Seq.{drop_at}
+use Rattle.std.specs.Prelude.{Result, Ok, Err}
 use Rattle.accounts.specs.Accounts.{QUOTAS}
 use Rattle.report.specs.Words.{line_text}
 use Rattle.report.specs.Import.{Lines, Good, Wrong, line_of, in_front, with_line, lines_from, taken, bad_at, imported, import_of}
@@ -13,10 +14,8 @@ use Rattle.report.specs.Export.{lines_text}
 use Rattle.report.specs.Exact.{Small, GoodLines, FirstBad}
 use Rattle.report.specs.declared.ReportRefusal.{ReportRefusal}
 use Rattle.report.specs.declared.ReportRefusal.TheVariants.{TooMany}
-use Rattle.report.specs.declared.Line.{Line}
-use Rattle.report.specs.declared.Line.TheVariants.{Grant, Bad}
-use Rattle.report.specs.declared.ImportAnswer.TheVariants.{Accepted, Refused}
 use Rattle.report.specs.declared.Imported.{Imported}
+use Rattle.report.specs.declared.BadLine.{BadLine}
 use Rattle.report.proofs.Words.{line_length, line_says, line_told}
 use Rattle.report.proofs.Imports.{lines_step, lines_over, lines_end, behind, behind_none}
 
@@ -66,12 +65,12 @@ end_outcome left n =
     let e : left ≡ left - 0 = omega arith in
     record { listed = []; small = tt; fits = omega arith; lines = refl; grants = ap (λ (k : ℕ). replicate k 0) e }
 
-bad_outcome : (left n : ℕ) (s : List ℕ) (r : ReportRefusal) → 0 < length s → ((0 ≡ left) × (r ≡ TooMany)) ⊎ ((0 < left) × (line_of s ≡ Bad r))
+bad_outcome : (left n : ℕ) (s : List ℕ) (r : ReportRefusal) → 0 < length s → ((0 ≡ left) × (r ≡ TooMany)) ⊎ ((0 < left) × (line_of s ≡ Err r))
     → FirstBad left n s r n
 unfolding lines_text
 bad_outcome left n s r h w = record { listed = []; small = tt; behind = s; there = h; lines = refl; which = omega arith; why = w }
 
-good_outcome : (left n : ℕ) (s : List ℕ) (g : ℕ) (l : Lines) → line_of s ≡ Grant g → Outcome left (suc n) (drop 54 s) l
+good_outcome : (left n : ℕ) (s : List ℕ) (g : ℕ) (l : Lines) → line_of s ≡ Ok g → Outcome left (suc n) (drop 54 s) l
     → Outcome (suc left) n s (in_front g l)
 unfolding in_front lines_text
 good_outcome left n s g (Good gs) e o =
@@ -96,16 +95,16 @@ good_outcome left n s g (Wrong r m) e o =
       why = later o.why;
     }
   where
-    later : ((length o.listed ≡ left) × (r ≡ TooMany)) ⊎ ((length o.listed < left) × (line_of o.behind ≡ Bad r))
-        → ((suc (length o.listed) ≡ suc left) × (r ≡ TooMany)) ⊎ ((suc (length o.listed) < suc left) × (line_of o.behind ≡ Bad r))
+    later : ((length o.listed ≡ left) × (r ≡ TooMany)) ⊎ ((length o.listed < left) × (line_of o.behind ≡ Err r))
+        → ((suc (length o.listed) ≡ suc left) × (r ≡ TooMany)) ⊎ ((suc (length o.listed) < suc left) × (line_of o.behind ≡ Err r))
     later (inl w) = inl (ap suc w.0, w.1)
     later (inr w) = inr (omega (arith, w.0), w.1)
 
-outcome_line : (left n : ℕ) (s : List ℕ) (l : Lines) → 0 < length s → Outcome left (suc n) (drop 54 s) l → (one : Line) → line_of s ≡ one
+outcome_line : (left n : ℕ) (s : List ℕ) (l : Lines) → 0 < length s → Outcome left (suc n) (drop 54 s) l → (one : Result ℕ ReportRefusal) → line_of s ≡ one
     → Outcome (suc left) n s (with_line n one l)
 unfolding with_line
-outcome_line left n s l h o (Grant g) e = good_outcome left n s g l e o
-outcome_line left n s l h o (Bad r) e = bad_outcome (suc left) n s r h (inr (omega arith, e))
+outcome_line left n s l h o (Ok g) e = good_outcome left n s g l e o
+outcome_line left n s l h o (Err r) e = bad_outcome (suc left) n s r h (inr (omega arith, e))
 
 outcome : (left n : ℕ) (s : List ℕ) → Outcome left n s (lines_from left n s)
 outcome zero n [] = rw (lines_end 0 n) (end_outcome 0 n)
@@ -121,7 +120,7 @@ accepted_lines : (l : Lines) (t gs : List ℕ) → Outcome QUOTAS 1 t l → impo
 unfolding imported
 accepted_lines (Good hs) t gs o e = let f : hs ≡ gs = ap (λ (x : Imported). x.grants) e in rw (← f) o
 accepted_lines (Wrong r n) t gs o e =
-    let a : Refused r n ≡ Accepted = ap (λ (x : Imported). x.answer) e in
+    let a : ◌≡◌ {A = Result (Unit {0}) BadLine} (Err (record { refusal = r; line = n })) (Ok tt) = ap (λ (x : Imported). x.answer) e in
     let z : ◌≡◌ {A = ℕ} 0 1 = cc in
     absurd (omega arith)
 
@@ -139,13 +138,15 @@ import_accepts t gs = (accepted_lines (lines_from QUOTAS 1 t) t gs (outcome QUOT
 refused_lines : (l : Lines) (t : List ℕ) (r : ReportRefusal) (n : ℕ) → Outcome QUOTAS 1 t l → imported l ≡ bad_at r n → FirstBad QUOTAS 1 t r n
 unfolding imported
 refused_lines (Good hs) t r n o e =
-    let a : Accepted ≡ Refused r n = ap (λ (x : Imported). x.answer) e in
+    let a : ◌≡◌ {A = Result (Unit {0}) BadLine} (Ok tt) (Err (record { refusal = r; line = n })) = ap (λ (x : Imported). x.answer) e in
     let z : ◌≡◌ {A = ℕ} 0 1 = cc in
     absurd (omega arith)
 refused_lines (Wrong q m) t r n o e =
-    let a : Refused q m ≡ Refused r n = ap (λ (x : Imported). x.answer) e in
-    let p : q ≡ r = cc in
-    let k : m ≡ n = cc in
+    let a : ◌≡◌ {A = Result (Unit {0}) BadLine} (Err (record { refusal = q; line = m })) (Err (record { refusal = r; line = n })) = ap (λ
+    (x : Imported). x.answer) e in
+    let b : ◌≡◌ {A = BadLine} (record { refusal = q; line = m }) (record { refusal = r; line = n }) = cc in
+    let p : q ≡ r = ap (λ (x : BadLine). x.refusal) b in
+    let k : m ≡ n = ap (λ (x : BadLine). x.line) b in
     rw (← p, ← k) o
 
 -- the lines in front of the bad one are read, and then it is met
@@ -159,7 +160,7 @@ module _ (t : List ℕ) (r : ReportRefusal) (n : ℕ) (w : FirstBad QUOTAS 1 t r
       let e : QUOTAS - length w.listed ≡ 0 = omega (arith, y.0) in
       met (omega (arith, y.0)) (rw (e, lines_over (1 + length w.listed) w.behind w.there, y.1) (ap (Wrong TooMany) (sym w.which)))
 
-  wrong : (length w.listed < QUOTAS) × (line_of w.behind ≡ Bad r) → import_of t ≡ bad_at r n
+  wrong : (length w.listed < QUOTAS) × (line_of w.behind ≡ Err r) → import_of t ≡ bad_at r n
   unfolding with_line
   wrong y =
       let e : QUOTAS - length w.listed ≡ suc (QUOTAS - suc (length w.listed)) = omega (arith, y.0) in

@@ -8,12 +8,12 @@ use native.Mathlib.Nat.{suc-mul}
 use lib.ListN.{length, take, drop, get_or, length-append}
 use lib.Seq.{take-suc, length-take-le}
 use borrow.Author.Tests.{lt-ltb, le-ltb}
+use Rattle.std.specs.Prelude.{Ok, Err}
 use Rattle.layout.specs.Bytes.{overwrite}
 use Rattle.layout.proofs.Overwrite.{overwrite_nil, overwrite_two, overwrite_fits}
 use Rattle.report.specs.Words.{line_text}
 use Rattle.report.specs.Export.{lines_text, Written, export_of}
 use Rattle.report.specs.declared.ReportRefusal.TheVariants.{Room}
-use Rattle.report.specs.declared.ExportAnswer.TheVariants.{Exported, Refused}
 use Rattle.report.proofs.Words.{line_length}
 
 pub lines_length : (gs : List ℕ) → length (lines_text gs) ≡ length gs * 54
@@ -54,12 +54,12 @@ take_none [] = refl
 take_none (x ∷ t) = refl
 
 module _ (t gs : List ℕ) where
-  pub export_room : length t < 1728 → ◌≡◌ {A = Written} (record { text = t; answer = Refused Room }) (export_of t gs)
+  pub export_room : length t < 1728 → ◌≡◌ {A = Written} (record { text = t; answer = Err Room }) (export_of t gs)
   unfolding export_of
   export_room h = sym (rw (lt-ltb (length t) 1728 h))
 
   pub export_put : 1728 ≤ length t → length gs ≡ 32 → (s : List ℕ) → s ≡ overwrite 0 (lines_text gs) t
-      → ◌≡◌ {A = Written} (record { text = s; answer = Exported 1728 }) (export_of t gs)
+      → ◌≡◌ {A = Written} (record { text = s; answer = Ok 1728 }) (export_of t gs)
   unfolding export_of
   export_put h l s e =
       let n : length (lines_text gs) ≡ 1728 = omega (arith, lines_length gs) in

@@ -7,13 +7,13 @@ use native.Mathlib.Omega.{arith}
 use lib.ListN.{length, drop, get_or, replicate}
 use lib.Dec.{eqb}
 use borrow.Author.Tests.{ne_eqb, ltb-true}
+use Rattle.std.specs.Prelude.{Result, Ok, Err}
 use Rattle.lists.proofs.Bools.{and_parts}
 use Rattle.report.specs.Words.{value, is_digit, all_digits, digits, mark, text, line_text, words_right, words, all_zero}
 use Rattle.report.specs.Import.{line_of, with_line, lines_from}
 use Rattle.report.specs.Exact.{to_line_feed, lines_by_feed}
-use Rattle.report.specs.declared.Line.{Line}
-use Rattle.report.specs.declared.Line.TheVariants.{Grant, Bad}
 use Rattle.report.specs.declared.ReportRefusal.TheVariants.{Reserved}
+use Rattle.report.specs.declared.ReportRefusal.{ReportRefusal}
 use Rattle.report.proofs.Hex.{digits_are}
 use Rattle.report.proofs.Words.{text_right, text_words, words_text, words_length, line_length, line_told}
 use Rattle.report.proofs.Loops.{line_wrong}
@@ -43,8 +43,8 @@ feed_front (c ∷ s) = go (eqb c 10) (feed_front s)
     go false e = ap (λ (l : List ℕ). c ∷ l) e
 
 -- what a line of six words says, whatever stands behind it
-line_words : List ℕ → Line
-line_words ws = cond (all_zero (drop 1 ws)) (Grant (get_or ws 0 0)) (Bad Reserved)
+line_words : List ℕ → Result ℕ ReportRefusal
+line_words ws = cond (all_zero (drop 1 ws)) (Ok (get_or ws 0 0)) (Err Reserved)
 
 right_says : (s : List ℕ) → words_right 6 s ≡ true → line_of s ≡ line_words (words 6 s)
 unfolding line_of line_words words
@@ -88,18 +88,18 @@ feed_says s = go (words_right 6 s) refl (words_right 6 u) refl
         absurd (false≢true (sym x ∙ ap (words_right 6) (sym f) ∙ text_is_right vs q (words_length 6 u)))
     go false x false e = sym (line_wrong u e) ∙ line_wrong s x
 
-feed_length : (s : List ℕ) (g : ℕ) → line_of s ≡ Grant g → length (to_line_feed s) ≡ 54
+feed_length : (s : List ℕ) (g : ℕ) → line_of s ≡ Ok g → length (to_line_feed s) ≡ 54
 unfolding line_text
 feed_length s g e =
     let f = (line_told s g e).again in
     ap (λ (l : List ℕ). length (to_line_feed l)) (sym f) ∙ ap length (text_pass g (replicate 5 0) (drop 54 s)) ∙ line_length g
 
 -- line by line
-feed_line : (left n : ℕ) (s : List ℕ) → ((q : List ℕ) → lines_by_feed left (suc n) q ≡ lines_from left (suc n) q) → (l : Line) → line_of s ≡ l
+feed_line : (left n : ℕ) (s : List ℕ) → ((q : List ℕ) → lines_by_feed left (suc n) q ≡ lines_from left (suc n) q) → (l : Result ℕ ReportRefusal) → line_of s ≡ l
     → with_line n l (lines_by_feed left (suc n) (drop (length (to_line_feed s)) s)) ≡ with_line n l (lines_from left (suc n) (drop 54 s))
 unfolding with_line
-feed_line left n s ih (Grant g) e = rw (feed_length s g e, ih (drop 54 s))
-feed_line left n s ih (Bad r) e = refl
+feed_line left n s ih (Ok g) e = rw (feed_length s g e, ih (drop 54 s))
+feed_line left n s ih (Err r) e = refl
 
 pub cut_either_way : (left n : ℕ) (s : List ℕ) → lines_by_feed left n s ≡ lines_from left n s
 unfolding lines_by_feed lines_from

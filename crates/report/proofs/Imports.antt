@@ -6,11 +6,11 @@ use native.Mathlib.Omega.{arith}
 use native.Mathlib.Numerals.{add-one}
 use lib.ListN.{length, take, drop, get_or, set, replicate, length-set, length-drop, drop_of_length-le, take-append-drop}
 use lib.Seq.{take-suc-set, drop-set-lt, drop-drop, drop-cons}
+use Rattle.std.specs.Prelude.{Ok, Err}
 use Rattle.accounts.specs.Accounts.{QUOTAS}
 use Rattle.report.specs.Import.{Lines, Good, Wrong, line_of, in_front, with_line, lines_from, taken, bad_at, imported, import_of}
 use Rattle.report.specs.declared.ReportRefusal.{ReportRefusal}
 use Rattle.report.specs.declared.ReportRefusal.TheVariants.{TooMany}
-use Rattle.report.specs.declared.Line.TheVariants.{Grant, Bad}
 use Rattle.report.proofs.Rows
 
 -- the definition at a text that is not empty, and at its end
@@ -67,7 +67,7 @@ module _ (t gs : List ℕ) (i : ℕ) (w : Importing t gs i) where
       let e : QUOTAS - i ≡ suc (QUOTAS - (i + 1)) = omega arith in
       rw (e, lines_step (QUOTAS - (i + 1)) (suc i) (drop (54 * i) t) (left_over l), next_line)
 
-  pub import_more : (g : ℕ) → i < QUOTAS → 54 * i < length t → Grant g ≡ line_of (drop (54 * i) t) → Importing t (set gs i g) (i + 1)
+  pub import_more : (g : ℕ) → i < QUOTAS → 54 * i < length t → Ok g ≡ line_of (drop (54 * i) t) → Importing t (set gs i g) (i + 1)
   unfolding with_line
   import_more g h l e =
       let n = w.long in
@@ -88,7 +88,7 @@ module _ (t gs : List ℕ) (i : ℕ) (w : Importing t gs i) where
 
   -- a bad line, one too many, and the end
   module _ (l : 54 * i < length t) where
-    pub import_bad : (r : ReportRefusal) → i < QUOTAS → Bad r ≡ line_of (drop (54 * i) t) → bad_at r (i + 1) ≡ import_of t
+    pub import_bad : (r : ReportRefusal) → i < QUOTAS → Err r ≡ line_of (drop (54 * i) t) → bad_at r (i + 1) ≡ import_of t
     unfolding import_of imported behind with_line
     import_bad r h e =
         let f : lines_from QUOTAS 1 t ≡ Wrong r (suc i) = w.so_far ∙ rw (this_line h l, ← e) in

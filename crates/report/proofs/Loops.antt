@@ -11,12 +11,13 @@ use lib.ListN.{length, take, drop, get_or, set, length-append, length-take, leng
 use lib.Seq.{take-suc, take-take, get_or-take, get_or-drop, drop-drop, length-take-le}
 use lib.Dec.{leb, eqb, lit<}
 use borrow.Author.Tests.{le-leb, eq-eqb, ne_eqb}
+use Rattle.std.specs.Prelude.{Ok, Err}
 use Rattle.lists.proofs.Bools.{and_parts}
+use borrow.Rule.Slice.PartMut.{put_mid}
 use Rattle.layout.specs.Bytes.{overwrite}
-use Rattle.layout.proofs.Overwrite.{overwrite_more, overwrite_two}
+use Rattle.layout.proofs.Overwrite.{length_overwrite, overwrite_more, overwrite_two, overwrite_fits}
 use Rattle.report.specs.Words.{digit, value, is_digit, all_digits, digits, number, mark, text, line_text, word_right, words_right, words, all_zero}
 use Rattle.report.specs.Import.{line_of}
-use Rattle.report.specs.declared.Line.TheVariants.{Grant, Bad}
 use Rattle.report.specs.declared.ReportRefusal.TheVariants.{Character, Reserved}
 use Rattle.report.proofs.Hex.{digits_length, digits_at, number_below}
 use Rattle.report.proofs.Words.{words_digits, words_long}
@@ -162,22 +163,22 @@ module _ (t : List ℕ) (at : ℕ) where
 
 -- what a line says, by its tests
 module _ (s : List ℕ) where
-  pub line_wrong : words_right 6 s ≡ false → Bad Character ≡ line_of s
+  pub line_wrong : words_right 6 s ≡ false → Err Character ≡ line_of s
   unfolding line_of
   line_wrong e = sym (rw e)
 
-  pub line_short : length s < 54 → Bad Character ≡ line_of s
+  pub line_short : length s < 54 → Err Character ≡ line_of s
   line_short h = line_wrong (go (words_right 6 s) refl)
     where
       go : (t : Bool) → words_right 6 s ≡ t → t ≡ false
       go true t = absurd (omega (arith, words_long 6 s t))
       go false t = refl
 
-  pub line_reserved : words_right 6 s ≡ true → all_zero (words 5 (drop 9 s)) ≡ false → Bad Reserved ≡ line_of s
+  pub line_reserved : words_right 6 s ≡ true → all_zero (words 5 (drop 9 s)) ≡ false → Err Reserved ≡ line_of s
   unfolding line_of
   line_reserved e z = sym (rw (e, z))
 
-  pub line_right : words_right 6 s ≡ true → all_zero (words 5 (drop 9 s)) ≡ true → Grant (number (take 8 s)) ≡ line_of s
+  pub line_right : words_right 6 s ≡ true → all_zero (words 5 (drop 9 s)) ≡ true → Ok (number (take 8 s)) ≡ line_of s
   unfolding line_of
   line_right e z = sym (rw (e, z))
 
@@ -210,9 +211,13 @@ line_tail : (g : ℕ) → line_text g ≡ digits 8 g ++ TAIL
 unfolding line_text text mark digits digit
 line_tail g = refl
 
-pub line_put : (at g : ℕ) (s s₁ s₂ : List ℕ) → at + 54 ≤ length s → s₁ ≡ overwrite at (digits 8 g) s → s₂ ≡ overwrite (at + 8) TAIL s₁
-    → s₂ ≡ overwrite at (line_text g) s
-line_put at g s s₁ s₂ l e f =
-    let k = digits_length 8 g in
+pub line_put : (at g : ℕ) (s s₁ new : List ℕ) → at + 54 ≤ length s → s₁ ≡ overwrite at (digits 8 g) s → new ≡ TAIL
+    → put_mid (at + 8) (at + 54 - (at + 8)) s₁ new ≡ overwrite at (line_text g) s
+line_put at g s s₁ new l e f =
+    let k : at + 54 - (at + 8) ≡ 46 = omega arith in
+    let d = digits_length 8 g in
     let p : at + 8 ≡ at + length (digits 8 g) = omega arith in
-    f ∙ rw (e, line_tail g, p) (overwrite_two at (digits 8 g) TAIL s (omega arith))
+    let n : length s₁ ≡ length s = ap length e ∙ length_overwrite at (digits 8 g) s in
+    let h : at + 8 + 46 ≤ length s₁ = omega arith in
+    rw (f, k, drop-drop 46 (at + 8) s₁, ← overwrite_fits (at + 8) TAIL s₁ h)
+    (rw (e, line_tail g, p) (overwrite_two at (digits 8 g) TAIL s (omega arith)))

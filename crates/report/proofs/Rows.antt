@@ -3,15 +3,13 @@ use mathlib.Core.Path.{◌≡◌, refl}
 use mathlib.Core.List.{List, [], ◌∷◌, ◌++◌, map}
 use Prim.Native.Nat.{ℕ, zero, suc}
 use lib.ListN.{length, set, take, replicate}
+use Rattle.std.specs.Prelude.{Ok, Err}
 use Rattle.report.specs.Words.{digit, value, digits, number, line_text}
 use Rattle.report.specs.Import.{report_refusal_number, line_of, import_of, import_told}
 use Rattle.report.specs.Export.{lines_text, export_of, text_told}
 use Rattle.report.specs.declared.ReportRefusal.{ReportRefusal}
 use Rattle.report.specs.declared.ReportRefusal.TheVariants.{Character, Reserved, TooMany, Room}
-use Rattle.report.specs.declared.Line.TheVariants.{Grant, Bad}
-use Rattle.report.specs.declared.ImportAnswer.TheVariants.{Accepted, Refused as NotImported}
 use Rattle.report.specs.declared.Imported.{Imported}
-use Rattle.report.specs.declared.ExportAnswer.TheVariants.{Exported, Refused}
 use Rattle.report.proofs.Computing.{computing}
 
 -- a word of zeros with the space before it, five of them and the line feed; and the line of 4,096
@@ -31,10 +29,10 @@ many (suc n) l = l ++ many n l
 
 -- what is accepted, and what is refused at a line
 good : List ℕ → Imported
-good gs = record { grants = gs; answer = Accepted }
+good gs = record { grants = gs; answer = Ok tt }
 
 bad : ReportRefusal → ℕ → Imported
-bad r n = record { grants = replicate 32 0; answer = NotImported r n }
+bad r n = record { grants = replicate 32 0; answer = Err (record { refusal = r; line = n }) }
 
 shown : Unit {0}
 unfolding computing word tail line many good bad
@@ -59,39 +57,39 @@ digit_rows = (refl, refl, refl, refl, refl, refl, refl, refl)
 -- a line: its 53 characters and the line feed; the greatest grant; more text behind it
 line_rows : (line_text 4096 ≡ line)
     × (length line ≡ 54)
-    × (line_of line ≡ Grant 4096)
-    × (line_of (replicate 8 102 ++ tail) ≡ Grant 4294967295)
-    × (line_of (replicate 8 48 ++ tail) ≡ Grant 0)
-    × (line_of (line ++ (7 ∷ [])) ≡ Grant 4096)
+    × (line_of line ≡ Ok 4096)
+    × (line_of (replicate 8 102 ++ tail) ≡ Ok 4294967295)
+    × (line_of (replicate 8 48 ++ tail) ≡ Ok 0)
+    × (line_of (line ++ (7 ∷ [])) ≡ Ok 4096)
 unfolding shown
 line_rows = (refl, refl, refl, refl, refl, refl)
 
 -- a wrong character or place: upper case, a tab, two spaces, a carriage return, a line feed too early, none at the end, cut short, moved
-wrong_rows : (line_of (set line 7 65) ≡ Bad Character)
-    × (line_of (set line 0 71) ≡ Bad Character)
-    × (line_of (set line 8 9) ≡ Bad Character)
-    × (line_of (set line 9 32) ≡ Bad Character)
-    × (line_of (set line 52 13) ≡ Bad Character)
-    × (line_of (set line 53 13) ≡ Bad Character)
-    × (line_of (take 53 line ++ (13 ∷ 10 ∷ [])) ≡ Bad Character)
-    × (line_of (take 44 line ++ (10 ∷ [])) ≡ Bad Character)
-    × (line_of (set line 44 10) ≡ Bad Character)
-    × (line_of (set line 53 32) ≡ Bad Character)
-    × (line_of (take 53 line) ≡ Bad Character)
-    × (line_of (32 ∷ line) ≡ Bad Character)
-    × (line_of (10 ∷ []) ≡ Bad Character)
+wrong_rows : (line_of (set line 7 65) ≡ Err Character)
+    × (line_of (set line 0 71) ≡ Err Character)
+    × (line_of (set line 8 9) ≡ Err Character)
+    × (line_of (set line 9 32) ≡ Err Character)
+    × (line_of (set line 52 13) ≡ Err Character)
+    × (line_of (set line 53 13) ≡ Err Character)
+    × (line_of (take 53 line ++ (13 ∷ 10 ∷ [])) ≡ Err Character)
+    × (line_of (take 44 line ++ (10 ∷ [])) ≡ Err Character)
+    × (line_of (set line 44 10) ≡ Err Character)
+    × (line_of (set line 53 32) ≡ Err Character)
+    × (line_of (take 53 line) ≡ Err Character)
+    × (line_of (32 ∷ line) ≡ Err Character)
+    × (line_of (10 ∷ []) ≡ Err Character)
 unfolding shown
 wrong_rows = (refl, refl, refl, refl, refl, refl, refl, refl, refl, refl, refl, refl, refl)
 
 -- a word after the first that is not zero, in each of the five and at both ends of one; and 31 before 32 in one line
-zero_rows : (line_of (set line 9 49) ≡ Bad Reserved)
-    × (line_of (set line 16 102) ≡ Bad Reserved)
-    × (line_of (set line 18 49) ≡ Bad Reserved)
-    × (line_of (set line 34 49) ≡ Bad Reserved)
-    × (line_of (set line 43 97) ≡ Bad Reserved)
-    × (line_of (set line 52 49) ≡ Bad Reserved)
-    × (line_of (set (set line 9 49) 53 32) ≡ Bad Character)
-    × (line_of (set (set line 9 49) 30 65) ≡ Bad Character)
+zero_rows : (line_of (set line 9 49) ≡ Err Reserved)
+    × (line_of (set line 16 102) ≡ Err Reserved)
+    × (line_of (set line 18 49) ≡ Err Reserved)
+    × (line_of (set line 34 49) ≡ Err Reserved)
+    × (line_of (set line 43 97) ≡ Err Reserved)
+    × (line_of (set line 52 49) ≡ Err Reserved)
+    × (line_of (set (set line 9 49) 53 32) ≡ Err Character)
+    × (line_of (set (set line 9 49) 30 65) ≡ Err Character)
 unfolding shown
 zero_rows = (refl, refl, refl, refl, refl, refl, refl, refl)
 
@@ -120,10 +118,10 @@ unfolding shown
 bad_rows = (refl, refl, refl, refl, refl, refl, refl, refl, refl)
 
 -- export: 1,727 bytes have no room, 1,728 have, and a byte behind them stays
-export_rows : (export_of [] (replicate 32 0) ≡ record { text = []; answer = Refused Room })
-    × (export_of (replicate 1727 1) (replicate 32 4096) ≡ record { text = replicate 1727 1; answer = Refused Room })
-    × (export_of (replicate 1728 1) (replicate 32 4096) ≡ record { text = many 32 line; answer = Exported 1728 })
-    × (export_of (replicate 1730 1) (replicate 32 4096) ≡ record { text = many 32 line ++ (1 ∷ 1 ∷ []); answer = Exported 1728 })
+export_rows : (export_of [] (replicate 32 0) ≡ record { text = []; answer = Err Room })
+    × (export_of (replicate 1727 1) (replicate 32 4096) ≡ record { text = replicate 1727 1; answer = Err Room })
+    × (export_of (replicate 1728 1) (replicate 32 4096) ≡ record { text = many 32 line; answer = Ok 1728 })
+    × (export_of (replicate 1730 1) (replicate 32 4096) ≡ record { text = many 32 line ++ (1 ∷ 1 ∷ []); answer = Ok 1728 })
     × (take 108 (lines_text (4294967295 ∷ replicate 31 4096)) ≡ replicate 8 102 ++ (tail ++ line))
 unfolding shown
 export_rows = (refl, refl, refl, refl, refl)
@@ -133,7 +131,7 @@ told_rows : (import_told (good (7 ∷ [])) ≡ record { grants = 7 ∷ []; refus
     × (import_told (bad Reserved 2) ≡ record { grants = replicate 32 0; refusal = 32; line = 2 })
     × (map (λ (r : ReportRefusal). (import_told (bad r 1)).refusal) (Character ∷ Reserved ∷ TooMany ∷ Room ∷ [])
     ≡ 31 ∷ 32 ∷ 33 ∷ 34 ∷ [])
-    × (text_told (1 ∷ []) (Exported 1728) ≡ record { text = 1 ∷ []; refusal = 0; length = 1728 })
-    × (text_told (1 ∷ []) (Refused Room) ≡ record { text = 1 ∷ []; refusal = 34; length = 0 })
+    × (text_told (1 ∷ []) (Ok 1728) ≡ record { text = 1 ∷ []; refusal = 0; length = 1728 })
+    × (text_told (1 ∷ []) (Err Room) ≡ record { text = 1 ∷ []; refusal = 34; length = 0 })
 unfolding shown
 told_rows = (refl, refl, refl, refl, refl)

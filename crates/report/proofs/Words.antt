@@ -9,10 +9,10 @@ use lib.ListN.{length, take, drop, get_or, replicate, length-append, length-drop
 use lib.Seq.{take_at, drop_at, get_or_at, drop-cons, drop-drop, length-take-le}
 use lib.Dec.{leb, eqb}
 use borrow.Author.Tests.{le-leb, leb-true, eq-eqb, eqb-true}
+use Rattle.std.specs.Prelude.{Ok, Err}
 use Rattle.lists.proofs.Bools.{and_parts}
 use Rattle.report.specs.Words.{all_digits, digits, number, mark, text, line_text, word_right, words_right, words, all_zero}
 use Rattle.report.specs.Import.{line_of}
-use Rattle.report.specs.declared.Line.TheVariants.{Grant, Bad}
 use Rattle.report.specs.declared.ReportRefusal.TheVariants.{Character, Reserved}
 use Rattle.report.proofs.Hex.{digits_length, digits_are, number_digits, number_below, digits_number}
 
@@ -140,9 +140,9 @@ module _ (g : ℕ) (q : List ℕ) where
   unfolding line_text
   said_right = text_right (g ∷ replicate 5 0) q
 
-  pub line_says : g < 2 ^ 32 → line_of (line_text g ++ q) ≡ Grant g
+  pub line_says : g < 2 ^ 32 → line_of (line_text g ++ q) ≡ Ok g
   unfolding line_of all_zero
-  line_says h = rw (said_right, said_rest, said_first) (ap Grant (mod-eq_of_lt h))
+  line_says h = rw (said_right, said_rest, said_first) (ap Ok (mod-eq_of_lt h))
 
 pub record Told (s : List ℕ) (g : ℕ) : Type 0 where
   pub small : g < 2 ^ 32
@@ -163,12 +163,12 @@ told s e z =
       again = told_again s e (zeros_behind s z);
     }
 
-pub line_told : (s : List ℕ) (g : ℕ) → line_of s ≡ Grant g → Told s g
+pub line_told : (s : List ℕ) (g : ℕ) → line_of s ≡ Ok g → Told s g
 unfolding line_of
 line_told s g e = go (words_right 6 s) refl (all_zero (words 5 (drop 9 s))) refl e
   where
     go : (t : Bool) → words_right 6 s ≡ t → (z : Bool) → all_zero (words 5 (drop 9 s)) ≡ z
-        → cond t (cond z (Grant (number (take 8 s))) (Bad Reserved)) (Bad Character) ≡ Grant g
+        → cond t (cond z (Ok (number (take 8 s))) (Err Reserved)) (Err Character) ≡ Ok g
         → Told s g
     go true t true z q = let n : number (take 8 s) ≡ g = cc in rw (← n) (told s t z)
     go true t false z q = let w : ◌≡◌ {A = ℕ} 0 1 = cc in absurd (omega arith)

@@ -1,10 +1,9 @@
 -- What is said of import: which texts it takes, and which line is the first bad one.
-use Rattle.std.specs.Prelude.{ℕ, zero, suc, ◌+◌, ◌-◌, ◌^◌, ◌≤◌, ◌<◌, ◌≡◌, List, [], ◌∷◌, ◌++◌, cond, ◌⊎◌, length, drop, replicate, eqb}
+use Rattle.std.specs.Prelude.{ℕ, zero, suc, ◌+◌, ◌-◌, ◌^◌, ◌≤◌, ◌<◌, ◌≡◌, List, [], ◌∷◌, ◌++◌, cond, ◌⊎◌, length, drop, replicate, eqb, Err}
 use Rattle.report.specs.Import.{Lines, Good, Wrong, line_of, with_line}
 use Rattle.report.specs.Export.{lines_text}
 use Rattle.report.specs.declared.ReportRefusal.{ReportRefusal}
 use Rattle.report.specs.declared.ReportRefusal.TheVariants.{TooMany}
-use Rattle.report.specs.declared.Line.TheVariants.{Bad}
 
 -- every number fits a word
 abbrev pub Small : List ℕ → Type 0
@@ -27,7 +26,7 @@ pub record FirstBad (left n : ℕ) (s : List ℕ) (r : ReportRefusal) (m : ℕ) 
   pub there : 0 < length behind
   pub lines : s ≡ lines_text listed ++ behind
   pub which : m ≡ n + length listed
-  pub why : ((length listed ≡ left) × (r ≡ TooMany)) ⊎ ((length listed < left) × (line_of behind ≡ Bad r))
+  pub why : ((length listed ≡ left) × (r ≡ TooMany)) ⊎ ((length listed < left) × (line_of behind ≡ Err r))
 
 -- a text up to its first line feed
 unfoldable pub to_line_feed : List ℕ → List ℕ

@@ -3,18 +3,11 @@ ghost use Rattle.std.specs.Prelude.{◌≡◌, true, ◌+◌, ◌≤◌, ◌<◌
 ghost use Rattle.layout.specs.Bytes.{overwrite};
 ghost use Rattle.report.specs.Words.{digit, value, is_digit, all_digits, digits, number};
 
-// A byte as a wider number.
-fn wide(byte: u8) -> u32
-    ensures { (result ≡ byte) × (result < 256) }
-{
-    byte as u32
-}
-
 // The digit of a character, 16 where it is none.
 fn value_of(character: u8) -> u32
     ensures { result ≡ value character }
 {
-    let c = wide(character);
+    let c = u32::from(character);
     if c < 48 {
         return 16;
     }
@@ -54,10 +47,8 @@ pub(crate) fn read_word(text: &[u8], at: usize) -> u32
     ensures { result ≡ number (take 8 (drop at text.now)) }
 {
     let mut n: u32 = 0;
-    let mut i: usize = 0;
-    while i < 8 {
+    for i in 0..8 {
         n = n * 16 + value_of(text[at + i]);
-        i += 1;
     }
     n
 }
@@ -67,9 +58,7 @@ pub(crate) fn put_word(text: &mut [u8], at: usize, n: u32)
     requires { at + 8 ≤ length text.old }
     ensures { text.new ≡ overwrite at (digits 8 n) text.old }
 {
-    let mut i: usize = 0;
-    while i < 8 {
+    for i in 0..8 {
         text[at + i] = digit_of((n >> (28 - 4 * i)) % 16);
-        i += 1;
     }
 }

@@ -4,7 +4,7 @@ ghost use Rattle.layout.specs.Bytes.{overwrite};
 ghost use Rattle.report.specs.Export.{lines_text, export_of, text_told, export_told};
 
 use crate::lines::put_line;
-use crate::{ExportAnswer, LINE_LENGTH, REPORT_LENGTH, ReportRefusal};
+use crate::{LINE_LENGTH, REPORT_LENGTH, ReportRefusal};
 use accounts::QUOTAS;
 
 // The lines of all grants, written at the front of a text that has room for them.
@@ -12,21 +12,20 @@ fn put_lines(text: &mut [u8], grants: [u32; QUOTAS])
     requires { 1728 ≤ length text.old }
     ensures { text.new ≡ overwrite 0 (lines_text grants) text.old }
 {
-    let mut i: usize = 0;
-    while i < QUOTAS {
+    for i in 0..QUOTAS {
         put_line(text, LINE_LENGTH * i, grants[i]);
-        i += 1;
     }
 }
 
-// The grants as a line each, written at the front of a lent text; bytes behind them stay. Without room nothing is written.
+// The grants as a line each, written at the front of a lent text, and how many bytes these are; bytes behind them stay.
+// Without room nothing is written.
 #[tactic(auto, using(crate::proofs::Exports::export_room))]
-pub fn export_grants(text: &mut [u8], grants: [u32; QUOTAS]) -> ExportAnswer
+pub fn export_grants(text: &mut [u8], grants: [u32; QUOTAS]) -> Result<usize, ReportRefusal>
     ensures { text_told text.new result ≡ export_told (export_of text.old grants) }
 {
     if text.len() < REPORT_LENGTH {
-        return ExportAnswer::Refused(ReportRefusal::Room);
+        return Err(ReportRefusal::Room);
     }
     put_lines(text, grants);
-    ExportAnswer::Exported(REPORT_LENGTH)
+    Ok(REPORT_LENGTH)
 }

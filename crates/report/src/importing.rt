@@ -3,7 +3,7 @@ ghost use Rattle.std.specs.Prelude.{◌≡◌};
 ghost use Rattle.report.specs.Import.{bad_at, import_of, import_told};
 
 use crate::lines::read_line;
-use crate::{ImportAnswer, Imported, LINE_LENGTH, Line, ReportRefusal};
+use crate::{BadLine, Imported, LINE_LENGTH, ReportRefusal};
 use accounts::QUOTAS;
 
 // No grants, and the bad line.
@@ -12,7 +12,7 @@ fn refused(refusal: ReportRefusal, line: u32) -> Imported
 {
     Imported {
         grants: [0; QUOTAS],
-        answer: ImportAnswer::Refused(refusal, line),
+        answer: Err(BadLine { refusal, line }),
     }
 }
 
@@ -21,25 +21,18 @@ pub fn import_grants(text: &[u8]) -> Imported
     ensures { import_told result ≡ import_told (import_of text.now) }
 {
     let mut grants = [0u32; QUOTAS];
-    let mut i: usize = 0;
-    while LINE_LENGTH * i < text.len() {
+    for i in 0..text.len().div_ceil(LINE_LENGTH) {
         let number = i as u32 + 1;
         if QUOTAS <= i {
             return refused(ReportRefusal::TooMany, number);
         }
-        let line = read_line(text, LINE_LENGTH * i);
-        match line {
-            Line::Grant(grant) => {
-                grants[i] = grant;
-            }
-            Line::Bad(refusal) => {
-                return refused(refusal, number);
-            }
+        match read_line(text, LINE_LENGTH * i) {
+            Ok(grant) => grants[i] = grant,
+            Err(refusal) => return refused(refusal, number),
         }
-        i += 1;
     }
     Imported {
         grants,
-        answer: ImportAnswer::Accepted,
+        answer: Ok(()),
     }
 }

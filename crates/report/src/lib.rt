@@ -29,32 +29,18 @@ pub enum ReportRefusal {
     Room,
 }
 
-// What a line says: the grant, or why it is a bad line.
+// The first bad line of a text: why it is one, and its number, from 1.
 #[derive(Clone, Copy)]
-pub enum Line {
-    Grant(u32),
-    Bad(ReportRefusal),
-}
-
-// The answer of import: a refusal comes with the first bad line's number, from 1.
-#[derive(Clone, Copy)]
-pub enum ImportAnswer {
-    Accepted,
-    Refused(ReportRefusal, u32),
+pub struct BadLine {
+    pub refusal: ReportRefusal,
+    pub line: u32,
 }
 
 // What import gives: the grants as open takes them, all zero where the text is refused.
 #[derive(Clone, Copy)]
 pub struct Imported {
     pub grants: [u32; QUOTAS],
-    pub answer: ImportAnswer,
-}
-
-// The answer of export: how many bytes it wrote.
-#[derive(Clone, Copy)]
-pub enum ExportAnswer {
-    Exported(usize),
-    Refused(ReportRefusal),
+    pub answer: Result<(), BadLine>,
 }
 
 impl ReportRefusal {

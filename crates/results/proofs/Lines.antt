@@ -1,4 +1,5 @@
 -- The refusal of a call by its lines, from what the check has answered: every call but open begins with the check's two lines.
+use Rattle.std.specs.Prelude.{Result, Ok, Err}
 use Prim.Native.Nat.{ℕ, zero, suc, ◌/◌, ◌%◌, ◌≤◌, ◌<◌}
 use native.Mathlib.Nat.{not-suc-le-zero}
 use native.Mathlib.Omega.{arith}
@@ -16,8 +17,6 @@ use Rattle.lists.specs.Lists.{all, any}
 use Rattle.model.specs.Consistent.{allowed, accounted, consistent}
 use Rattle.model.specs.Calls.{Outcome, unless, unchanged, check}
 use Rattle.model.specs.declared.Refusal.{Refusal}
-use Rattle.model.specs.declared.Verdict.{Verdict}
-use Rattle.model.specs.declared.Verdict.TheVariants.{Accepted, Refused}
 use Rattle.lists.proofs.Bools.{and_left, and_right, or_neither}
 use Rattle.model.proofs.Answers.{refusal_number_is}
 use Rattle.model.proofs.Consistent.{consistent_accounted}
@@ -44,23 +43,25 @@ number_some r = go (refusal_number r) (refusal_number_is r).1
     go zero h = absurd (not-suc-le-zero h)
     go (suc n) h = (n, refl)
 
-module _ (unit : ℕ → ℕ) (s : List ℕ) (k : Accounts) (v : Verdict) (told : verdict_values v ≡ (check unit s k).values) (rest : List Line) where
+module _ (unit : ℕ → ℕ) (s : List ℕ) (k : Accounts) (v : Result (Unit {0}) Refusal) (told : verdict_values v ≡ (check unit s k).values) (rest : List Line) where
   checked : (verdict_values v).refusal ≡ first_refusal (check_lines unit s k)
   checked = ap (λ (x : Values). x.refusal) told ∙ refusal_of_lines (check_by_lines unit s k)
 
   -- what the check refuses is refused, whatever lines follow
-  pub check_refuses : (r : Refusal) → v ≡ Refused r → first_refusal (line_1 s ∷ line_2 unit s k ∷ rest) ≡ refusal_number r
+  pub check_refuses : (r : Refusal) → v ≡ Err r → first_refusal (line_1 s ∷ line_2 unit s k ∷ rest) ≡ refusal_number r
   unfolding row_lines verdict_values
   check_refuses r e =
       let n = number_some r in
-      let f : first_refusal (line_1 s ∷ line_2 unit s k ∷ []) ≡ suc n.0 = sym checked ∙ ap (λ (x : Verdict). (verdict_values x).refusal) e ∙ n.1 in
+      let f : first_refusal (line_1 s ∷ line_2 unit s k ∷ []) ≡ suc n.0 = sym checked
+      ∙ ap (λ (x : Result (Unit {0}) Refusal). (verdict_values x).refusal) e ∙ n.1 in
       first_two (line_1 s) (line_2 unit s k) rest n.0 f ∙ sym n.1
 
   -- what it accepts goes on to them
-  pub check_accepts : v ≡ Accepted → first_refusal (line_1 s ∷ line_2 unit s k ∷ rest) ≡ first_refusal rest
+  pub check_accepts : v ≡ Ok tt → first_refusal (line_1 s ∷ line_2 unit s k ∷ rest) ≡ first_refusal rest
   unfolding row_lines verdict_values
   check_accepts e =
-      after_two (line_1 s) (line_2 unit s k) rest (check_by_lines unit s k).numbered (sym checked ∙ ap (λ (x : Verdict). (verdict_values x).refusal) e)
+      after_two (line_1 s) (line_2 unit s k) rest (check_by_lines unit s k).numbered (sym checked
+      ∙ ap (λ (x : Result (Unit {0}) Refusal). (verdict_values x).refusal) e)
 
 -- a refused outcome
 pub refused_is : (n : ℕ) (s : List ℕ) (k : Accounts) (done : Outcome) (r : Refusal) → n ≡ refusal_number r
@@ -91,11 +92,12 @@ unfolding line_3
 line_3_passes q rest h = line_passes 3 (leb QUOTAS q) rest (lt-leb QUOTAS q h)
 
 -- a state that the check accepts has an allowed length and is consistent
-pub check_accounted : (unit : ℕ → ℕ) (s : List ℕ) (k : Accounts) (v : Verdict) → verdict_values v ≡ (check unit s k).values → v ≡ Accepted
+pub check_accounted : (unit : ℕ → ℕ) (s : List ℕ) (k : Accounts) (v : Result (Unit {0}) Refusal) → verdict_values v ≡ (check unit s k).values → v ≡ Ok tt
     → (allowed (length s) ≡ true) × (accounted s k ≡ true) × (consistent unit s k ≡ true)
 unfolding row_lines line_1 line_2 any verdict_values
 check_accounted unit s k v told e =
-    let z : (check unit s k).values.refusal ≡ 0 = sym (ap (λ (x : Values). x.refusal) told) ∙ ap (λ (x : Verdict). (verdict_values x).refusal) e in
+    let z : (check unit s k).values.refusal ≡ 0 = sym (ap (λ (x : Values). x.refusal) told)
+    ∙ ap (λ (x : Result (Unit {0}) Refusal). (verdict_values x).refusal) e in
     let n = (answers_none (check_by_lines unit s k)).0 z in
     let p = or_neither (not (allowed (length s))) (not (consistent unit s k) || false) n in
     let q = or_neither (not (consistent unit s k)) false p.1 in

@@ -1,12 +1,11 @@
 -- What a call leaves and answers: a result and the heap at the call's exit make one outcome. No two results make the same one (proofs/Results.antt).
-use Rattle.std.specs.Prelude.{ℕ, List}
+use Rattle.model.specs.declared.Refusal.{Refusal}
+use Rattle.model.specs.declared.Handle.{Handle}
+use Rattle.std.specs.Prelude.{ℕ, List, Result}
 use Rattle.accounts.specs.declared.Accounts.{Accounts}
 use Rattle.words.specs.Words.{accounts_of}
 use Rattle.model.specs.Answers.{Values, verdict_values, amount_values, handle_values}
 use Rattle.model.specs.Calls.{Outcome}
-use Rattle.model.specs.declared.Verdict.{Verdict}
-use Rattle.model.specs.declared.AmountAnswer.{AmountAnswer}
-use Rattle.model.specs.declared.HandleAnswer.{HandleAnswer}
 use Rattle.results.specs.declared.Opened.{Opened}
 use Rattle.results.specs.declared.AmountResult.{AmountResult}
 use Rattle.results.specs.declared.HandleResult.{HandleResult}
@@ -24,11 +23,11 @@ abbrev pub handle_outcome : List ℕ → HandleResult → Outcome
 handle_outcome s r = outcome s r.accounts (handle_values r.answer)
 
 -- a call over words: the accounts that the words hold at its exit, and its answer, as one result
-abbrev pub opened_result : List ℕ → Verdict → Opened
+abbrev pub opened_result : List ℕ → Result (Unit {0}) Refusal → Opened
 opened_result words verdict = record { accounts = accounts_of words; verdict = verdict }
 
-abbrev pub amount_result : List ℕ → AmountAnswer → AmountResult
+abbrev pub amount_result : List ℕ → Result ℕ Refusal → AmountResult
 amount_result words answer = record { accounts = accounts_of words; answer = answer }
 
-abbrev pub handle_result : List ℕ → HandleAnswer → HandleResult
+abbrev pub handle_result : List ℕ → Result Handle Refusal → HandleResult
 handle_result words answer = record { accounts = accounts_of words; answer = answer }

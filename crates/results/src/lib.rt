@@ -2,69 +2,49 @@
 #![tactic(auto)]
 
 ghost use Rattle.std.specs.Prelude.{◌≡◌};
+ghost use Rattle.results.specs.Results.{amount_result, handle_result};
 
 use accounts::Accounts;
-use model::{AmountAnswer, HandleAnswer, Refusal, Verdict};
+use model::{Handle, Refusal};
+use words::WORDS;
 
 // What open gives: the accounts, all zero where it is refused, and the verdict.
 #[derive(Clone, Copy)]
 pub struct Opened {
     pub accounts: Accounts,
-    pub verdict: Verdict,
+    pub verdict: Result<(), Refusal>,
 }
 
 // What claim, release, free-all, clear permissions and sweep give.
 #[derive(Clone, Copy)]
 pub struct AmountResult {
     pub accounts: Accounts,
-    pub answer: AmountAnswer,
+    pub answer: Result<u32, Refusal>,
 }
 
 // What allocate, allocate array and reallocate give.
 #[derive(Clone, Copy)]
 pub struct HandleResult {
     pub accounts: Accounts,
-    pub answer: HandleAnswer,
+    pub answer: Result<Handle, Refusal>,
 }
 
 impl AmountResult {
-    // A refused call's result: the accounts as they came in, and the refusal.
-    pub fn refused(accounts: Accounts, refusal: Refusal) -> AmountResult
-        ensures { result ≡ record { accounts = accounts; answer = AmountAnswer.Refused refusal } }
+    // A call over words has answered: the accounts that they hold, and the answer.
+    pub fn of(words: &[u32; WORDS], answer: Result<u32, Refusal>) -> AmountResult
+        ensures { result ≡ amount_result words.now answer }
     {
-        AmountResult {
-            accounts: accounts,
-            answer: AmountAnswer::Refused(refusal),
-        }
-    }
-
-    // An accepted call's result: the accounts after it, and the amount.
-    pub fn given(accounts: Accounts, amount: u32) -> AmountResult
-        ensures { result ≡ record { accounts = accounts; answer = AmountAnswer.Amount amount } }
-    {
-        AmountResult {
-            accounts: accounts,
-            answer: AmountAnswer::Amount(amount),
-        }
+        let accounts = words::accounts_of(words);
+        AmountResult { accounts, answer }
     }
 }
 
 impl HandleResult {
-    // A refused call's result: the accounts as they came in, and the refusal.
-    pub fn refused(accounts: Accounts, refusal: Refusal) -> HandleResult
-        ensures { result ≡ record { accounts = accounts; answer = HandleAnswer.Refused refusal } }
+    // A call over words has answered: the accounts that they hold, and the answer.
+    pub fn of(words: &[u32; WORDS], answer: Result<Handle, Refusal>) -> HandleResult
+        ensures { result ≡ handle_result words.now answer }
     {
-        HandleResult {
-            accounts: accounts,
-            answer: HandleAnswer::Refused(refusal),
-        }
-    }
-
-    // The result with other accounts.
-    pub fn with_accounts(mut self, accounts: Accounts) -> HandleResult
-        ensures { result ≡ record { accounts = accounts; answer = self.answer } }
-    {
-        self.accounts = accounts;
-        self
+        let accounts = words::accounts_of(words);
+        HandleResult { accounts, answer }
     }
 }

@@ -18,7 +18,8 @@ fn first_unit(length: u32) -> u32
     }
 }
 
-// Edition 2's.
+// Edition 2's. Document 01 binds the unit to a `match` over the ranges of the length, so each edition has its own.
+#[tactic(auto, unfolding(crate::specs::Rounding::unit_2))]
 fn second_unit(length: u32) -> u32
     ensures { result ≡ unit_2 length }
 {
@@ -62,7 +63,8 @@ const FIRST_POWERS: [u8; 33] = [
     3,
 ];
 
-// Edition 2's: 128 up to 16 zeros, then 64, 32, 16, and 8 from 20 on (rule 23.6).
+// Edition 2's: 128 up to 16 zeros, then 64, 32, 16, and 8 from 20 on (rule 23.6). A table of both tables would be no plainer: `power` would need a number
+// from `edition == 0` to choose the row, since every number but 0 is taken for edition 2.
 const SECOND_POWERS: [u8; 33] = [
     7, 7, 7, 7, 7, 7, 7, 7, 7, 7, 7, 7, 7, 7, 7, 7, 7, 6, 5, 4, 3, 3, 3, 3, 3, 3, 3, 3, 3, 3, 3, 3,
     3,

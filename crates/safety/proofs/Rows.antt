@@ -1,9 +1,9 @@
 -- What the definitions give for small cases, by computing.
+use Rattle.std.specs.Prelude.{Some, None}
 use Prim.Native.Nat.{ℕ, ◌-◌}
 use mathlib.Core.Path.{◌≡◌, refl}
 use mathlib.Core.List.{List, [], ◌∷◌, map}
 use mathlib.Core.Bool.{true, false}
-use mathlib.Core.Option.{none, some}
 use lib.ListN.{replicate}
 use Rattle.accounts.specs.declared.Accounts.{Accounts}
 use Rattle.rounding.specs.Rounding.{unit}
@@ -29,12 +29,12 @@ calls h =
     ∷ ClearPermissions 3 1 ∷ []
 
 pub quota_rows : (h : Handle) → map quota_of (calls h)
-    ≡ some 3 ∷ some 3 ∷ some 3 ∷ some 3 ∷ some 3 ∷ none ∷ some 3 ∷ none ∷ some 3 ∷ some 3 ∷ none ∷ some 3 ∷ []
+    ≡ Some 3 ∷ Some 3 ∷ Some 3 ∷ Some 3 ∷ Some 3 ∷ None ∷ Some 3 ∷ None ∷ Some 3 ∷ Some 3 ∷ None ∷ Some 3 ∷ []
 unfolding calls
 quota_rows h = refl
 
 pub handle_rows : (h : Handle) → map handle_of (calls h)
-    ≡ none ∷ none ∷ some h ∷ some h ∷ none ∷ none ∷ some h ∷ some h ∷ none ∷ some h ∷ none ∷ none ∷ []
+    ≡ None ∷ None ∷ Some h ∷ Some h ∷ None ∷ None ∷ Some h ∷ Some h ∷ None ∷ Some h ∷ None ∷ None ∷ []
 unfolding calls
 handle_rows h = refl
 

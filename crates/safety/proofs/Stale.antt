@@ -1,11 +1,11 @@
 -- A stale handle stays stale. A new object gets the serial after the last one, and the last serial never falls while no image is read; so a serial that was
 -- given and that no object has is never that of an object again. Without an object both lookups find nothing, and line 5 holds.
+use Rattle.std.specs.Prelude.{Option, Some, None}
 use Prim.Native.Nat.{ℕ, zero, suc, ◌≤◌}
 use native.Mathlib.Omega.{arith}
 use mathlib.Core.Path.{◌≡◌, refl, ap, sym, subst, ◌∙◌}
 use mathlib.Core.List.{List, [], ◌∷◌, ◌++◌, Memᴰ}
 use mathlib.Core.Bool.{true, false, false≢true, true≢false}
-use mathlib.Core.Option.{Option, none, some}
 use mathlib.Core.Logic.{⊎_elim}
 use lib.ListN.{length}
 use lib.Dec.{leb}
@@ -70,36 +70,36 @@ cut_outcome front back e s k done =
     unless_refused (first_refusal (front ++ ((5 when true) ∷ back))) r.0 s k done (cut_off front back ∙ r.1)
     ∙ ap (λ (n : ℕ). unchanged s k (refused n)) (sym r.1)
 
-not_some : {A : Type 0} {x : A} → none ≡ some x → ⊥
+not_some : {A : Type 0} {x : A} → None ≡ Some x → ⊥
 unfolding is_none
 not_some e = true≢false (ap is_none e)
 
-same_handle : (h g : Handle) → some h ≡ some g → h ≡ g
+same_handle : (h g : Handle) → Some h ≡ Some g → h ≡ g
 same_handle h g e = ap (λ (o : Option Handle). or_first o) e
   where
     or_first : Option Handle → Handle
-    or_first none = g
-    or_first (some x) = x
+    or_first None = g
+    or_first (Some x) = x
 
 -- in a consistent state of an allowed length without an object of the handle's serial
 module _ (unit : ℕ → ℕ) (s : List ℕ) (k : Accounts) (extent : allowed (length s) ≡ true) (fits : consistent unit s k ≡ true) where
   -- lines 1 and 2 don't hold, and 5 does
-  reached : (front back : List Line) (o : Option Handle) → o ≡ none
+  reached : (front back : List Line) (o : Option Handle) → o ≡ None
       → first_refusal (line_1 s ∷ line_2 unit s k ∷ (front ++ (line_5 o ∷ back))) ≡ first_refusal (front ++ ((5 when true) ∷ back))
   unfolding first_refusal line_1 line_2 line_5 is_none
   reached front back o e = rw (extent, fits, e)
 
-  refused_there : (front back : List Line) (o : Option Handle) → o ≡ none → Numbered front → (done : Outcome)
+  refused_there : (front back : List Line) (o : Option Handle) → o ≡ None → Numbered front → (done : Outcome)
       → unless (first_refusal (line_1 s ∷ line_2 unit s k ∷ (front ++ (line_5 o ∷ back)))) s k done
       ≡ unchanged s k (refused (first_refusal (front ++ ((5 when true) ∷ []))))
   refused_there front back o e n done = ap (λ (m : ℕ). unless m s k done) (reached front back o e) ∙ cut_outcome front back n s k done
 
   module _ (h : Handle) (gone : (o : Handle) → Memᴰ o (objects_of s) → o.serial ≡ h.serial → ⊥) where
-    nothing : lookup h s ≡ none
+    nothing : lookup h s ≡ None
     unfolding lookup
     nothing = (first_none (names h) (objects_of s)).1 ((none_exactly (names h) (objects_of s)).1 (λ o m n. gone o m (sym ((names_exactly h o).0 n).serial)))
 
-    nothing_whole : lookup_whole h s ≡ none
+    nothing_whole : lookup_whole h s ≡ None
     nothing_whole = (lookup_whole_none h s).1 (λ m. gone h m refl)
 
     abbrev Answers : Call → Type 0
@@ -128,7 +128,7 @@ module _ (unit : ℕ → ℕ) (s : List ℕ) (k : Accounts) (extent : allowed (l
     unfolding row_lines stale_refusal lines_before_5 all
     lends = (by_lines unit (Lend h) s k).outcome ∙ refused_there [] [] (lookup h s) nothing refl _
 
-    answers : (c : Call) → handle_of c ≡ some h → Answers c
+    answers : (c : Call) → handle_of c ≡ Some h → Answers c
     answers (Allocate q n) e = absurd (not_some e)
     answers (AllocateArray q count size) e = absurd (not_some e)
     answers (Claim q g) e = subst (λ (x : Handle). Answers (Claim q x)) (same_handle h g (sym e)) (claims q)

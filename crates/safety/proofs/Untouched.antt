@@ -1,11 +1,11 @@
 -- What a quota has is its own. A call pays for and counts for its own quota alone. An object with a hold left stays live, since the objects after a call are
 -- old ones or the new one, and no call changes a byte of an object that stays.
+use Rattle.std.specs.Prelude.{Some}
 use Prim.Native.Nat.{ℕ, ◌*◌, ◌<◌}
 use native.Mathlib.Omega.{arith}
 use mathlib.Core.Path.{◌≡◌, refl, ap, sym, ◌∙◌}
 use mathlib.Core.List.{List, Memᴰ}
 use mathlib.Core.Bool.{Bool, true, false, cond, ◌&&◌}
-use mathlib.Core.Option.{some}
 use mathlib.Core.Logic.{⊎_elim}
 use lib.Dec.{eqb}
 use borrow.Author.Tests.{ne_eqb}
@@ -48,8 +48,8 @@ use Rattle.safety.specs.Untouched.{MadeForAnother, Keeps, Untouched}
 use Rattle.safety.proofs.Accepted.{none_holds}
 
 -- a call for another quota pays for another
-not_its : (p q : ℕ) → (some p ≡ some q → ⊥) → eqb p q ≡ false
-not_its p q f = ne_eqb p q (λ e. f (ap some e))
+not_its : (p q : ℕ) → (Some p ≡ Some q → ⊥) → eqb p q ≡ false
+not_its p q f = ne_eqb p q (λ e. f (ap Some e))
 
 pays_not : (q : ℕ) (c : Call) → MadeForAnother q c → pays c q ≡ false
 pays_not q (Allocate p n) f = not_its p q f

@@ -1,10 +1,10 @@
 -- The laws don't hold of the wrong heaps: each is refuted by a short list of calls that is computed.
+use Rattle.std.specs.Prelude.{Option, Some, None}
 use Prim.Native.Nat.{ℕ, zero, suc, ◌-◌, ◌≤◌, ◌^◌}
 use native.Mathlib.Omega.{arith}
 use mathlib.Core.Path.{◌≡◌, refl, ap, sym, subst, ◌∙◌}
 use mathlib.Core.List.{List, [], ◌∷◌, Memᴰ}
 use mathlib.Core.Bool.{Bool, true, false, true≢false, false≢true}
-use mathlib.Core.Option.{Option, none, some}
 use lib.ListN.{length, replicate, get_or, set}
 use lib.Seq.{get_or-set_other}
 use lib.Dec.{ltb}
@@ -157,12 +157,12 @@ refuted_keeps_the_heap l =
     let e : ◌≡◌ {A = ℕ} 8 2 = ap (λ (s : List ℕ). get_or s 0 0) r.heap in
     omega arith
 
-same_number : (m n : ℕ) → some m ≡ some n → m ≡ n
+same_number : (m n : ℕ) → Some m ≡ Some n → m ≡ n
 same_number m n e = ap (λ (o : Option ℕ). number o) e
   where
     number : Option ℕ → ℕ
-    number none = 0
-    number (some x) = x
+    number None = 0
+    number (Some x) = x
 
 -- quota 0 gets 8 bytes where quota 1 has 1000, and not where it has none
 pub refuted_asks_the_next : Isolated table asks_the_next → ⊥
@@ -176,7 +176,7 @@ refuted_asks_the_next l =
     omega arith
 
 -- a call of quota 0 is not one of quota 1
-other_quota : ◌≡◌ {A = Option ℕ} (some 0) (some 1) → ⊥
+other_quota : ◌≡◌ {A = Option ℕ} (Some 0) (Some 1) → ⊥
 other_quota e = let z : ◌≡◌ {A = ℕ} 0 1 = same_number 0 1 e in omega arith
 
 -- quota 0 allocates, and quota 1 has 992 left

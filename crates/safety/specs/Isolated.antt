@@ -1,6 +1,5 @@
 -- What a quota can learn of the others (rules 24.10 and 24.11): two states that look alike to a quota answer its calls alike.
-use Rattle.std.specs.Prelude.{ℕ, ◌≡◌, List, true}
-use Rattle.std.proofs.Math.Option.{some}
+use Rattle.std.specs.Prelude.{ℕ, ◌≡◌, List, true, Some}
 use Rattle.accounts.specs.declared.Accounts.{Accounts}
 use Rattle.accounts.specs.Accounts.{quota_at, used}
 use Rattle.lists.specs.Lists.{all}
@@ -12,7 +11,7 @@ use Rattle.safety.specs.Arguments.{quota_of}
 
 -- a call is made for this quota, or for none in particular
 abbrev pub MadeFor : ℕ → Call → Type 0
-MadeFor q c = (p : ℕ) → quota_of c ≡ some p → p ≡ q
+MadeFor q c = (p : ℕ) → quota_of c ≡ Some p → p ≡ q
 
 -- accounts that the quota cannot tell apart: its grant, remainder and permissions, its holds, the edition, the last serial, and whether a record is left
 pub record Alike (q : ℕ) (k k' : Accounts) : Type 0 where

@@ -1,7 +1,6 @@
 -- Stale handles (rules 24.1 to 24.3): once an object has left, no call reaches anything through a handle with its serial.
-use Rattle.std.specs.Prelude.{ℕ, ◌≤◌, ◌≡◌, true, false, cond, eqb, drop}
+use Rattle.std.specs.Prelude.{ℕ, ◌≤◌, ◌≡◌, true, false, cond, eqb, drop, Some}
 use mathlib.Core.List.{List, [], ◌∷◌, ◌++◌, map, Memᴰ}
-use Rattle.std.proofs.Math.Option.{some}
 use Rattle.accounts.specs.declared.Accounts.{Accounts}
 use Rattle.rounding.specs.Rounding.{unit}
 use Rattle.lists.specs.Lists.{any}
@@ -40,8 +39,8 @@ stale_refusal c k = first_refusal (lines_before_5 c k ++ ((5 when true) ∷ []))
 
 -- the handle names nothing: every call with it is refused and changes nothing, by 5 where none of these lines holds
 pub record NamesNothing (run : Run) (s : List ℕ) (k : Accounts) (h : Handle) : Type 0 where
-  pub refuses : (c : Call) → handle_of c ≡ some h → run c s k ≡ unchanged s k (refused (stale_refusal c k))
-  pub by_5 : (c : Call) → handle_of c ≡ some h → any line_holds (lines_before_5 c k) ≡ false → run c s k ≡ unchanged s k (refused 5)
+  pub refuses : (c : Call) → handle_of c ≡ Some h → run c s k ≡ unchanged s k (refused (stale_refusal c k))
+  pub by_5 : (c : Call) → handle_of c ≡ Some h → any line_holds (lines_before_5 c k) ≡ false → run c s k ≡ unchanged s k (refused 5)
 
 pub record StaleForever (tables : ℕ → ℕ → ℕ) (run : Run) : Type 0 where
   -- an object was there after `front` and had left after `middle`, and no image was read since `front`: whatever comes behind, a handle with its serial,

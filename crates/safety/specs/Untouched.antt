@@ -1,7 +1,6 @@
 -- What a quota has is its own (rules 24.12 and 24.13): no call made for another changes its numbers, its holds, or a byte of an object that it holds.
-use Rattle.std.specs.Prelude.{ℕ, ◌<◌, ◌≡◌}
+use Rattle.std.specs.Prelude.{ℕ, ◌<◌, ◌≡◌, Some}
 use mathlib.Core.List.{List, Memᴰ}
-use Rattle.std.proofs.Math.Option.{some}
 use Rattle.accounts.specs.declared.Accounts.{Accounts}
 use Rattle.accounts.specs.Accounts.{quota_at}
 use Rattle.model.specs.Objects.{objects_of}
@@ -16,7 +15,7 @@ use Rattle.safety.specs.Arguments.{quota_of}
 
 -- a call is made for another quota, or for none in particular
 abbrev pub MadeForAnother : ℕ → Call → Type 0
-MadeForAnother q c = quota_of c ≡ some q → ⊥
+MadeForAnother q c = quota_of c ≡ Some q → ⊥
 
 -- what an outcome leaves of a quota: its grant, remainder and permissions, its holds, and the objects that it holds, each in its place with its bytes
 pub record Keeps (q : ℕ) (s : List ℕ) (k : Accounts) (t : Outcome) : Type 0 where

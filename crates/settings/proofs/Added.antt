@@ -1,7 +1,7 @@
 -- The bytes of an entry behind a run of entries: they are read as that entry, and the others as before.
+use Rattle.std.specs.Prelude.{Some}
 use mathlib.Core.Path.{◌≡◌, ap, sym, ◌∙◌}
 use mathlib.Core.List.{List, [], ◌∷◌, ◌++◌}
-use mathlib.Core.Option.{some}
 use Prim.Native.Nat.{ℕ, zero, suc, ◌+◌, ◌*◌, ◌/◌, ◌%◌, ◌≤◌, ◌<◌}
 use native.Mathlib.Omega.{arith}
 use native.Mathlib.Nat.{add-zero}
@@ -60,7 +60,7 @@ module _ (s : List ℕ) (version name : ℕ) (v : List ℕ) (w : version < 65536
       }
 
   -- the last entry alone
-  last_grown : (m last : ℕ) → length grown ≤ length s + m → last ≤ version → entries_from m last (length s) grown ≡ some (new ∷ [])
+  last_grown : (m last : ℕ) → length grown ≤ length s + m → last ≤ version → entries_from m last (length s) grown ≡ Some (new ∷ [])
   unfolding in_front
   last_grown zero last r h = absurd (omega (arith, length_grown))
   last_grown (suc m) last r h =
@@ -74,9 +74,9 @@ module _ (s : List ℕ) (version name : ℕ) (v : List ℕ) (w : version < 65536
   -- an old entry, and those behind it
   old_grown : (last at : ℕ) (fs : List Entry) → at < length s → Known last at s (entry_at at s)
       → ((m : ℕ) → (entry_at at s).end ≤ length s → length grown ≤ (entry_at at s).end + m → newest (entry_at at s).version fs ≤ version
-      → entries_from m (entry_at at s).version (entry_at at s).end grown ≡ some (fs ++ (new ∷ [])))
+      → entries_from m (entry_at at s).version (entry_at at s).end grown ≡ Some (fs ++ (new ∷ [])))
       → (m : ℕ) → length grown ≤ at + m → newest (entry_at at s).version fs ≤ version
-      → entries_from m last at grown ≡ some (entry_at at s ∷ (fs ++ (new ∷ [])))
+      → entries_from m last at grown ≡ Some (entry_at at s ∷ (fs ++ (new ∷ [])))
   unfolding in_front
   old_grown last at fs h k more zero r b = absurd (omega (arith, length_grown))
   old_grown last at fs h k more (suc m) r b =
@@ -90,18 +90,18 @@ module _ (s : List ℕ) (version name : ℕ) (v : List ℕ) (w : version < 65536
       ∙ ap (in_front (entry_at at s)) (more m inside (omega arith) b)
 
   -- all entries
-  all_grown : (fuel last at : ℕ) (es : List Entry) → entries_from fuel last at s ≡ some es
-      → (m : ℕ) → at ≤ length s → length grown ≤ at + m → newest last es ≤ version → entries_from m last at grown ≡ some (es ++ (new ∷ []))
+  all_grown : (fuel last at : ℕ) (es : List Entry) → entries_from fuel last at s ≡ Some es
+      → (m : ℕ) → at ≤ length s → length grown ≤ at + m → newest last es ≤ version → entries_from m last at grown ≡ Some (es ++ (new ∷ []))
   unfolding newest in_front
   all_grown =
       by_entries s
       (λ last at es.
-      (m : ℕ) → at ≤ length s → length grown ≤ at + m → newest last es ≤ version → entries_from m last at grown ≡ some (es ++ (new ∷ [])))
+      (m : ℕ) → at ≤ length s → length grown ≤ at + m → newest last es ≤ version → entries_from m last at grown ≡ Some (es ++ (new ∷ [])))
       (λ last at h m a r k.
       let e : at ≡ length s = omega arith in
       rw e (last_grown m last (rw e at r) k))
       (λ last at fs h k more m a r b. old_grown last at fs h k more m r b)
 
-  pub entries_grown : (es : List Entry) → entries s ≡ some es → newest 0 es ≤ version → entries grown ≡ some (es ++ (new ∷ []))
+  pub entries_grown : (es : List Entry) → entries s ≡ Some es → newest 0 es ≤ version → entries grown ≡ Some (es ++ (new ∷ []))
   unfolding entries
   entries_grown es e k = all_grown (length s) 0 0 es e (length grown) (omega arith) (omega arith) k

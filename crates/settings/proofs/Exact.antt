@@ -2,7 +2,6 @@
 use mathlib.Core.Path.{◌≡◌, refl, ap, sym, ◌∙◌}
 use mathlib.Core.List.{List, [], ◌∷◌, ◌++◌, append_assoc}
 use mathlib.Core.Bool.{Bool, true, false, cond}
-use mathlib.Core.Option.{Option, none, some}
 use mathlib.Core.Logic.{◌⊎◌, inl, inr}
 use Prim.Native.Nat.{ℕ, zero, suc, ◌+◌, ◌*◌, ◌/◌, ◌%◌, ◌≤◌, ◌<◌}
 use native.Mathlib.Omega.{arith}
@@ -10,16 +9,12 @@ use native.Mathlib.Nat.{add-zero}
 use lib.Arith.{digits_div, digits_mod}
 use lib.ListN.{length, take, drop, get_or, length-append, length-drop, take-append-drop}
 use lib.Seq.{get_or-append-add, drop-cons, drop-drop, length-take-le}
+use Rattle.std.specs.Prelude.{Ok, Err, Some, None, Option}
 use Rattle.layout.specs.Bytes.{bytes, Octets}
 use Rattle.layout.proofs.Numbers.{octets_take}
 use Rattle.settings.specs.declared.Span.{Span}
 use Rattle.settings.specs.declared.Entry.{Entry}
-use Rattle.settings.specs.declared.Found.{Found}
-use Rattle.settings.specs.declared.Found.TheVariants.{At, Nothing}
-use Rattle.settings.specs.declared.Scan.{Scan}
-use Rattle.settings.specs.declared.Scan.TheVariants.{Done, Malformed as NoRun}
 use Rattle.settings.specs.declared.SettingsRefusal.TheVariants.{Malformed, Missing}
-use Rattle.settings.specs.declared.Place.TheVariants.{Refused}
 use Rattle.settings.specs.Entries.{entry_at, in_front, entries_from, entries, stored}
 use Rattle.settings.specs.Find.{answers, value_of, later, or_else, value_in, found_in, chosen, find}
 use Rattle.settings.specs.Add.{entry_bytes}
@@ -31,33 +26,33 @@ use Rattle.settings.proofs.Stores.{stored_within}
 use Rattle.settings.proofs.Added.{same_version, length_entry}
 
 -- nothing is found exactly if no entry answers
-pub value_none : (name version : ℕ) (es : List Entry) → value_in name version es ≡ Nothing → NoneAnswers name version es
+pub value_none : (name version : ℕ) (es : List Entry) → value_in name version es ≡ None → NoneAnswers name version es
 unfolding value_in or_else later
 value_none name version [] e = tt
 value_none name version (x ∷ es) e = go (value_in name version es) refl (answers name version x) refl e (value_none name version es)
   where
-    go : (f : Found) → value_in name version es ≡ f → (b : Bool) → answers name version x ≡ b
-        → or_else f (cond b (At (value_of x)) Nothing) ≡ Nothing → (value_in name version es ≡ Nothing → NoneAnswers name version es)
+    go : (f : Option Span) → value_in name version es ≡ f → (b : Bool) → answers name version x ≡ b
+        → or_else f (cond b (Some (value_of x)) None) ≡ None → (value_in name version es ≡ None → NoneAnswers name version es)
         → NoneAnswers name version (x ∷ es)
-    go (At y) p b q r more = let no : ◌≡◌ {A = ℕ} 0 1 = cc in absurd (omega arith)
-    go Nothing p true q r more = let no : ◌≡◌ {A = ℕ} 0 1 = cc in absurd (omega arith)
-    go Nothing p false q r more = (q, more p)
+    go (Some y) p b q r more = let no : ◌≡◌ {A = ℕ} 0 1 = cc in absurd (omega arith)
+    go None p true q r more = let no : ◌≡◌ {A = ℕ} 0 1 = cc in absurd (omega arith)
+    go None p false q r more = (q, more p)
 
-pub none_value : (name version : ℕ) (es : List Entry) → NoneAnswers name version es → value_in name version es ≡ Nothing
+pub none_value : (name version : ℕ) (es : List Entry) → NoneAnswers name version es → value_in name version es ≡ None
 unfolding value_in or_else later
 none_value name version [] n = refl
 none_value name version (x ∷ es) n = rw (none_value name version es n.1, n.0)
 
 -- what is found is the value of the last entry that answers, and of that alone
-pub value_last : (name version : ℕ) (es : List Entry) (x : Span) → value_in name version es ≡ At x → LastAnswers name version es x
+pub value_last : (name version : ℕ) (es : List Entry) (x : Span) → value_in name version es ≡ Some x → LastAnswers name version es x
 unfolding value_in or_else later
 value_last name version [] x e = let no : ◌≡◌ {A = ℕ} 0 1 = cc in absurd (omega arith)
 value_last name version (y ∷ es) x e = go (value_in name version es) refl (answers name version y) refl e (value_last name version es x)
   where
-    go : (f : Found) → value_in name version es ≡ f → (b : Bool) → answers name version y ≡ b
-        → or_else f (cond b (At (value_of y)) Nothing) ≡ At x → (value_in name version es ≡ At x → LastAnswers name version es x)
+    go : (f : Option Span) → value_in name version es ≡ f → (b : Bool) → answers name version y ≡ b
+        → or_else f (cond b (Some (value_of y)) None) ≡ Some x → (value_in name version es ≡ Some x → LastAnswers name version es x)
         → LastAnswers name version (y ∷ es) x
-    go (At z) p b q r more =
+    go (Some z) p b q r more =
         let l = more (p ∙ r) in
         record {
           front = y ∷ l.front;
@@ -68,22 +63,22 @@ value_last name version (y ∷ es) x e = go (value_in name version es) refl (ans
           silent = l.silent;
           value = l.value;
         }
-    go Nothing p true q r more =
+    go None p true q r more =
         let is : value_of y ≡ x = cc in
         record { front = []; last = y; behind = es; split = refl; answering = q; silent = value_none name version es p; value = sym is }
-    go Nothing p false q r more = let no : ◌≡◌ {A = ℕ} 0 1 = cc in absurd (omega arith)
+    go None p false q r more = let no : ◌≡◌ {A = ℕ} 0 1 = cc in absurd (omega arith)
 
 last_found : (name version : ℕ) (front : List Entry) (e : Entry) (behind : List Entry) → answers name version e ≡ true → NoneAnswers name version behind
-    → value_in name version (front ++ (e ∷ behind)) ≡ At (value_of e)
+    → value_in name version (front ++ (e ∷ behind)) ≡ Some (value_of e)
 unfolding value_in or_else later
 last_found name version [] e behind a n = rw (none_value name version behind n, a)
 last_found name version (y ∷ front) e behind a n = rw (last_found name version front e behind a n)
 
-pub last_value : (name version : ℕ) (es : List Entry) (x : Span) → LastAnswers name version es x → value_in name version es ≡ At x
+pub last_value : (name version : ℕ) (es : List Entry) (x : Span) → LastAnswers name version es x → value_in name version es ≡ Some x
 last_value name version es x l =
     ap (value_in name version) l.split
     ∙ last_found name version l.front l.last l.behind l.answering l.silent
-    ∙ ap At (sym l.value)
+    ∙ ap Some (sym l.value)
 
 -- a run of settings is read as their entries
 entry_read : (p : List ℕ) (w : Setting) (q : List ℕ) → w.version < 65536
@@ -100,7 +95,7 @@ entry_read p w q h =
     λ i. record { version = whole i; name = second i; start = length p + 4; end = length p + 4 + third i }
 
 run_from : (ws : List Setting) (p : List ℕ) (m last : ℕ) → Rising last ws → length (p ++ run ws) ≤ length p + m
-    → entries_from m last (length p) (p ++ run ws) ≡ some (placed (length p) ws)
+    → entries_from m last (length p) (p ++ run ws) ≡ Some (placed (length p) ws)
 unfolding run placed in_front
 run_from [] p m last r l = from_end (p ++ []) m last (length p) (omega (arith, length-append p []))
 run_from (w ∷ ws) p zero last r l =
@@ -122,9 +117,9 @@ run_from (w ∷ ws) p (suc m) last r l =
     ∙ ap (in_front (entry_of w (length p)))
     ((λ i. entries_from m w.version (sym to i) (sym same i))
     ∙ run_from ws (p ++ b) m w.version r.1.1.1 (omega (arith, ap length same))
-    ∙ ap (λ (k : ℕ). some (placed k ws)) to)
+    ∙ ap (λ (k : ℕ). Some (placed k ws)) to)
 
-pub run_read : (ws : List Setting) → Rising 0 ws → entries (run ws) ≡ some (placed 0 ws)
+pub run_read : (ws : List Setting) → Rising 0 ws → entries (run ws) ≡ Some (placed 0 ws)
 unfolding entries
 run_read ws r = run_from ws [] (length (run ws)) 0 r (omega arith)
 
@@ -178,7 +173,7 @@ module _ (s : List ℕ) (o : Octets s) where
             ∷ get_or s (at + 2) 0 ∷ sym l i ∷ tail i);
       }
 
-  pub read_run : (es : List Entry) → entries s ≡ some es → IsRun 0 s
+  pub read_run : (es : List Entry) → entries s ≡ Some es → IsRun 0 s
   unfolding entries run
   read_run es e =
       by_entries s (λ last at es. IsRun last (drop at s))
@@ -187,26 +182,26 @@ module _ (s : List ℕ) (o : Octets s) where
       (length s) 0 0 es e
 
 -- a store is well formed exactly if its used bytes are there and are a run of settings
-pub stored_run : (s : List ℕ) (used : ℕ) (es : List Entry) → Octets s → stored s used ≡ some es → (used ≤ length s) × IsRun 0 (take used s)
+pub stored_run : (s : List ℕ) (used : ℕ) (es : List Entry) → Octets s → stored s used ≡ Some es → (used ≤ length s) × IsRun 0 (take used s)
 stored_run s used es o e =
     let p = stored_is s used es e in
     (p.0, read_run (take used s) (octets_take used s o) es p.1)
 
-pub run_stored : (s : List ℕ) (used : ℕ) → used ≤ length s → (r : IsRun 0 (take used s)) → stored s used ≡ some (placed 0 r.settings)
+pub run_stored : (s : List ℕ) (used : ℕ) → used ≤ length s → (r : IsRun 0 (take used s)) → stored s used ≡ Some (placed 0 r.settings)
 run_stored s used h r = stored_within s used h ∙ ap entries r.is ∙ run_read r.settings r.rising
 
 -- 42 is given exactly if both stores are well formed and no entry of either answers; 41 exactly if one is malformed
 module _ (name version : ℕ) (b : List ℕ) (bu : ℕ) (d : List ℕ) (du : ℕ) where
-  pub missed : find name version b bu d du ≡ Refused Missing → Missed name version b bu d du
+  pub missed : find name version b bu d du ≡ Err Missing → Missed name version b bu d du
   unfolding find found_in chosen
   missed e = go (stored b bu) refl (stored d du) refl e
     where
-      both : (es fs : List Entry) → stored b bu ≡ some es → stored d du ≡ some fs
-          → (x y : Found) → value_in name version es ≡ x → value_in name version fs ≡ y
-          → chosen (Done x) (Done y) ≡ Refused Missing → Missed name version b bu d du
-      both es fs p q (At x) y u v e = let no : ◌≡◌ {A = ℕ} 0 1 = cc in absurd (omega arith)
-      both es fs p q Nothing (At y) u v e = let no : ◌≡◌ {A = ℕ} 0 1 = cc in absurd (omega arith)
-      both es fs p q Nothing Nothing u v e =
+      both : (es fs : List Entry) → stored b bu ≡ Some es → stored d du ≡ Some fs
+          → (x y : Option Span) → value_in name version es ≡ x → value_in name version fs ≡ y
+          → chosen (Ok x) (Ok y) ≡ Err Missing → Missed name version b bu d du
+      both es fs p q (Some x) y u v e = let no : ◌≡◌ {A = ℕ} 0 1 = cc in absurd (omega arith)
+      both es fs p q None (Some y) u v e = let no : ◌≡◌ {A = ℕ} 0 1 = cc in absurd (omega arith)
+      both es fs p q None None u v e =
           record {
             own = es;
             others = fs;
@@ -217,39 +212,39 @@ module _ (name version : ℕ) (b : List ℕ) (bu : ℕ) (d : List ℕ) (du : ℕ
           }
 
       go : (x : Option (List Entry)) → stored b bu ≡ x → (y : Option (List Entry)) → stored d du ≡ y
-          → chosen (found_in name version x) (found_in name version y) ≡ Refused Missing → Missed name version b bu d du
-      go none p y q e = let no : ◌≡◌ {A = ℕ} 0 1 = cc in absurd (omega arith)
-      go (some es) p none q e = let no : ◌≡◌ {A = ℕ} 0 1 = cc in absurd (omega arith)
-      go (some es) p (some fs) q e = both es fs p q (value_in name version es) (value_in name version fs) refl refl e
+          → chosen (found_in name version x) (found_in name version y) ≡ Err Missing → Missed name version b bu d du
+      go None p y q e = let no : ◌≡◌ {A = ℕ} 0 1 = cc in absurd (omega arith)
+      go (Some es) p None q e = let no : ◌≡◌ {A = ℕ} 0 1 = cc in absurd (omega arith)
+      go (Some es) p (Some fs) q e = both es fs p q (value_in name version es) (value_in name version fs) refl refl e
 
-  pub missing : Missed name version b bu d du → find name version b bu d du ≡ Refused Missing
+  pub missing : Missed name version b bu d du → find name version b bu d du ≡ Err Missing
   unfolding find found_in chosen
   missing m =
       rw (m.own_stored, m.others_stored, none_value name version m.own m.own_silent, none_value name version m.others m.others_silent)
 
-  pub own_malformed : stored b bu ≡ none → find name version b bu d du ≡ Refused Malformed
+  pub own_malformed : stored b bu ≡ None → find name version b bu d du ≡ Err Malformed
   unfolding find found_in chosen
   own_malformed e = rw e
 
-  pub other_malformed : stored d du ≡ none → find name version b bu d du ≡ Refused Malformed
+  pub other_malformed : stored d du ≡ None → find name version b bu d du ≡ Err Malformed
   unfolding find found_in chosen
-  other_malformed e = rw e (go (found_in name version (stored b bu)))
+  other_malformed e = rw e (go (stored b bu))
     where
-      go : (x : Scan) → chosen x (found_in name version none) ≡ Refused Malformed
-      go NoRun = refl
-      go (Done f) = refl
+      go : (o : Option (List Entry)) → chosen (found_in name version o) (found_in name version None) ≡ Err Malformed
+      go None = refl
+      go (Some es) = refl
 
-  pub malformed_exactly : find name version b bu d du ≡ Refused Malformed → (stored b bu ≡ none) ⊎ (stored d du ≡ none)
+  pub malformed_exactly : find name version b bu d du ≡ Err Malformed → (stored b bu ≡ None) ⊎ (stored d du ≡ None)
   unfolding find found_in chosen
   malformed_exactly e = go (stored b bu) refl (stored d du) refl e
     where
-      both : (x y : Found) → chosen (Done x) (Done y) ≡ Refused Malformed → ⊥
-      both (At x) y e = let no : ◌≡◌ {A = ℕ} 0 1 = cc in absurd (omega arith)
-      both Nothing (At y) e = let no : ◌≡◌ {A = ℕ} 0 1 = cc in absurd (omega arith)
-      both Nothing Nothing e = let no : ◌≡◌ {A = ℕ} 0 1 = cc in absurd (omega arith)
+      both : (x y : Option Span) → chosen (Ok x) (Ok y) ≡ Err Malformed → ⊥
+      both (Some x) y e = let no : ◌≡◌ {A = ℕ} 0 1 = cc in absurd (omega arith)
+      both None (Some y) e = let no : ◌≡◌ {A = ℕ} 0 1 = cc in absurd (omega arith)
+      both None None e = let no : ◌≡◌ {A = ℕ} 0 1 = cc in absurd (omega arith)
 
       go : (x : Option (List Entry)) → stored b bu ≡ x → (y : Option (List Entry)) → stored d du ≡ y
-          → chosen (found_in name version x) (found_in name version y) ≡ Refused Malformed → (stored b bu ≡ none) ⊎ (stored d du ≡ none)
-      go none p y q e = inl p
-      go (some es) p none q e = inr q
-      go (some es) p (some fs) q e = absurd (both (value_in name version es) (value_in name version fs) e)
+          → chosen (found_in name version x) (found_in name version y) ≡ Err Malformed → (stored b bu ≡ None) ⊎ (stored d du ≡ None)
+      go None p y q e = inl p
+      go (Some es) p None q e = inr q
+      go (Some es) p (Some fs) q e = absurd (both (value_in name version es) (value_in name version fs) e)

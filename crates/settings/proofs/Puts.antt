@@ -1,27 +1,27 @@
 -- Writing an entry: its parts side by side are its bytes; and each answer of adding.
-use mathlib.Core.Path.{◌≡◌, refl, ap, ◌∙◌}
+use mathlib.Core.Path.{◌≡◌, refl, ap, sym, ◌∙◌}
 use mathlib.Core.List.{List, [], ◌∷◌, ◌++◌}
-use mathlib.Core.Option.{Option, none, some}
 use Prim.Native.Nat.{ℕ, ◌+◌, ◌-◌, ◌≤◌, ◌<◌}
 use native.Mathlib.Omega.{arith}
-use native.Mathlib.Numerals.{add-one}
-use lib.ListN.{length, take, get_or, set, length-set}
-use lib.Seq.{take-suc, length-take-le}
+use lib.ListN.{length, set, length-set}
+use lib.Seq.{drop-drop}
 use borrow.Author.Tests.{lt-ltb, le-ltb}
+use Rattle.std.specs.Prelude.{Ok, Err, Option, Some, None}
+use borrow.Rule.Slice.PartMut.{put_mid}
 use Rattle.layout.specs.Bytes.{bytes, overwrite, write_number}
-use Rattle.layout.proofs.Overwrite.{length_overwrite, overwrite_two, overwrite_more}
 use Rattle.settings.proofs.Rows
+use Rattle.layout.proofs.Overwrite.{length_overwrite, overwrite_two, overwrite_more, overwrite_fits}
 use Rattle.settings.specs.declared.Entry.{Entry}
-use Rattle.settings.specs.declared.Last.TheVariants.{Version, Malformed as LastMalformed}
+use Rattle.settings.specs.declared.SettingsRefusal.{SettingsRefusal}
 use Rattle.settings.specs.declared.SettingsRefusal.TheVariants.{Malformed, ValueLength, VersionFalls, Full}
 use Rattle.settings.specs.Entries.{newest, stored, last_of}
 use Rattle.settings.specs.Add.{entry_bytes, refused, added, add_behind, add_of}
 
--- one byte more of a value
-pub put_more : (at i b : ℕ) (v s t : List ℕ) → at + length v ≤ length s → i < length v → b ≡ get_or v i 0 → t ≡ overwrite at (take i v) s
-    → set t (at + i) b ≡ overwrite at (take (i + 1) v) s
-put_more at i b v s t h l e is =
-    rw (is, e, add-one i, take-suc v i 0 l) (overwrite_more at (take i v) s i (get_or v i 0) (length-take-le i v (omega arith)) (omega arith))
+-- bytes copied to a part of s that they fill
+pub part_put : (at : ℕ) (v new s : List ℕ) → at + length v ≤ length s → new ≡ v → put_mid at (at + length v - at) s new ≡ overwrite at v s
+part_put at v new s h e =
+    let k : at + length v - at ≡ length v = omega arith in
+    rw (k, e, drop-drop (length v) at s) (sym (overwrite_fits at v s h))
 
 -- version, name, length and value, one behind the other
 pub entry_put : (at name version : ℕ) (v s t w : List ℕ) → at + (4 + length v) ≤ length s
@@ -44,23 +44,23 @@ put_length at version s t name n e =
     length-set (set t (at + 2) name) (at + 3) n ∙ length-set t (at + 2) name ∙ ap length e ∙ length_overwrite at (bytes 2 version) s
 
 -- the entries of a store of which the last version is known
-pub last_known : (o : Option (List Entry)) (last : ℕ) → Version last ≡ last_of o → (es : List Entry) × ((o ≡ some es) × (last ≡ newest 0 es))
+pub last_known : (o : Option (List Entry)) (last : ℕ) → Ok last ≡ last_of o → (es : List Entry) × ((o ≡ Some es) × (last ≡ newest 0 es))
 unfolding last_of
-last_known none last e = let z : ◌≡◌ {A = ℕ} 0 1 = cc in absurd (omega arith)
-last_known (some es) last e = (es, (refl, cc))
+last_known None last e = let z : ◌≡◌ {A = ℕ} 0 1 = cc in absurd (omega arith)
+last_known (Some es) last e = (es, (refl, cc))
 
-pub last_unknown : (o : Option (List Entry)) → LastMalformed ≡ last_of o → o ≡ none
+pub last_unknown : (o : Option (List Entry)) (r : SettingsRefusal) → Err r ≡ last_of o → (o ≡ None) × (r ≡ Malformed)
 unfolding last_of
-last_unknown none e = refl
-last_unknown (some es) e = let z : ◌≡◌ {A = ℕ} 0 1 = cc in absurd (omega arith)
+last_unknown None r e = (refl, cc)
+last_unknown (Some es) r e = let z : ◌≡◌ {A = ℕ} 0 1 = cc in absurd (omega arith)
 
 -- the four refusals in their order, and none
 module _ (name version : ℕ) (v s : List ℕ) (used : ℕ) where
-  pub add_malformed : stored s used ≡ none → refused s Malformed ≡ add_of name version v s used
+  pub add_malformed : stored s used ≡ None → refused s Malformed ≡ add_of name version v s used
   unfolding add_of add_behind
   add_malformed e = rw e
 
-  module _ (es : List Entry) (e : stored s used ≡ some es) where
+  module _ (es : List Entry) (e : stored s used ≡ Some es) where
     pub add_long : 64 < length v → refused s ValueLength ≡ add_of name version v s used
     unfolding add_of add_behind
     add_long h = rw (e, lt-ltb 64 (length v) h)

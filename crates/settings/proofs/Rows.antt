@@ -1,19 +1,17 @@
 -- The definitions computed: stores of no, one and several entries, every way to be malformed, which entry answers, and adding around each refusal.
 use mathlib.Core.Path.{◌≡◌, refl}
 use mathlib.Core.List.{List, [], ◌∷◌, ◌++◌, map}
-use mathlib.Core.Option.{Option, none, some}
 use Prim.Native.Nat.{ℕ}
 use lib.ListN.{take, replicate}
+use Rattle.std.specs.Prelude.{Result, Ok, Err, Some, None, Option}
 use Rattle.settings.specs.declared.Span.{Span}
 use Rattle.settings.specs.declared.Entry.{Entry}
 use Rattle.settings.specs.declared.SettingsRefusal.{SettingsRefusal}
 use Rattle.settings.specs.declared.SettingsRefusal.TheVariants.{Malformed, Missing, ValueLength, VersionFalls, Full}
-use Rattle.settings.specs.declared.Place.TheVariants.{Board, Default, Refused}
-use Rattle.settings.specs.declared.NthEntry.{NthEntry}
-use Rattle.settings.specs.declared.NthEntry.TheVariants.{There, End, Malformed as NoEntry}
-use Rattle.settings.specs.declared.AddAnswer.TheVariants.{Added, Refused as NotAdded}
+use Rattle.settings.specs.declared.Place.TheVariants.{Board, Default}
+use Rattle.settings.specs.Refusals.{settings_refusal_number}
 use Rattle.settings.specs.Entries.{stored, EntryTold, entry_told, nth_of}
-use Rattle.settings.specs.Find.{settings_refusal_number, find, located, refusal_of, bytes_of}
+use Rattle.settings.specs.Find.{find, located, refusal_of, bytes_of}
 use Rattle.settings.specs.Add.{Stored, entry_bytes, add_of, added_to}
 use Rattle.settings.proofs.Computing.{computing}
 
@@ -40,31 +38,31 @@ unfolding computing entry span small four long
 shown = tt
 
 -- no entry, in no bytes and in a buffer; one; four; junk behind the used bytes; values of 0 and 64 bytes; the highest version and name
-run_rows : (stored [] 0 ≡ some [])
-    × (stored (255 ∷ 255 ∷ []) 0 ≡ some [])
-    × (stored small 6 ≡ some (entry 513 7 4 6 ∷ []))
-    × (stored (small ++ (1 ∷ [])) 6 ≡ some (entry 513 7 4 6 ∷ []))
-    × (stored four 20 ≡ some (entry 1 5 4 5 ∷ entry 3 5 9 11 ∷ entry 3 6 15 16 ∷ entry 3 5 20 20 ∷ []))
-    × (stored four 11 ≡ some (entry 1 5 4 5 ∷ entry 3 5 9 11 ∷ []))
-    × (stored (long 0) 4 ≡ some (entry 0 9 4 4 ∷ []))
-    × (stored (long 64) 68 ≡ some (entry 0 9 4 68 ∷ []))
-    × (stored (255 ∷ 255 ∷ 255 ∷ 0 ∷ []) 4 ≡ some (entry 65535 255 4 4 ∷ []))
+run_rows : (stored [] 0 ≡ Some [])
+    × (stored (255 ∷ 255 ∷ []) 0 ≡ Some [])
+    × (stored small 6 ≡ Some (entry 513 7 4 6 ∷ []))
+    × (stored (small ++ (1 ∷ [])) 6 ≡ Some (entry 513 7 4 6 ∷ []))
+    × (stored four 20 ≡ Some (entry 1 5 4 5 ∷ entry 3 5 9 11 ∷ entry 3 6 15 16 ∷ entry 3 5 20 20 ∷ []))
+    × (stored four 11 ≡ Some (entry 1 5 4 5 ∷ entry 3 5 9 11 ∷ []))
+    × (stored (long 0) 4 ≡ Some (entry 0 9 4 4 ∷ []))
+    × (stored (long 64) 68 ≡ Some (entry 0 9 4 68 ∷ []))
+    × (stored (255 ∷ 255 ∷ 255 ∷ 0 ∷ []) 4 ≡ Some (entry 65535 255 4 4 ∷ []))
 unfolding shown
 run_rows = (refl, refl, refl, refl, refl, refl, refl, refl, refl)
 
 -- malformed: cut at every byte, in the buffer and by the used length; a value of 65 and of 255 bytes; more bytes used than there are; a version that
 -- falls in the lower and in the higher byte, behind a good entry; a second entry cut short
-malformed_rows : (map (λ (n : ℕ). stored (take n small) n) (1 ∷ 2 ∷ 3 ∷ 4 ∷ 5 ∷ []) ≡ replicate 5 none)
-    × (map (stored small) (1 ∷ 2 ∷ 3 ∷ 4 ∷ 5 ∷ []) ≡ replicate 5 none)
-    × (stored (long 65) 69 ≡ none)
-    × (stored (long 255) 259 ≡ none)
-    × (stored [] 1 ≡ none)
-    × (stored small 7 ≡ none)
-    × (stored four 21 ≡ none)
-    × (stored (5 ∷ 0 ∷ 1 ∷ 0 ∷ 4 ∷ 0 ∷ 1 ∷ 0 ∷ []) 8 ≡ none)
-    × (stored (0 ∷ 1 ∷ 1 ∷ 0 ∷ 255 ∷ 0 ∷ 2 ∷ 0 ∷ []) 8 ≡ none)
-    × (stored (4 ∷ 0 ∷ 1 ∷ 0 ∷ 4 ∷ 0 ∷ 1 ∷ 0 ∷ 3 ∷ 255 ∷ 1 ∷ 0 ∷ 2 ∷ 255 ∷ 1 ∷ 0 ∷ []) 16 ≡ none)
-    × (map (stored four) (6 ∷ 7 ∷ 8 ∷ 9 ∷ 10 ∷ 12 ∷ 17 ∷ 19 ∷ []) ≡ replicate 8 none)
+malformed_rows : (map (λ (n : ℕ). stored (take n small) n) (1 ∷ 2 ∷ 3 ∷ 4 ∷ 5 ∷ []) ≡ replicate 5 None)
+    × (map (stored small) (1 ∷ 2 ∷ 3 ∷ 4 ∷ 5 ∷ []) ≡ replicate 5 None)
+    × (stored (long 65) 69 ≡ None)
+    × (stored (long 255) 259 ≡ None)
+    × (stored [] 1 ≡ None)
+    × (stored small 7 ≡ None)
+    × (stored four 21 ≡ None)
+    × (stored (5 ∷ 0 ∷ 1 ∷ 0 ∷ 4 ∷ 0 ∷ 1 ∷ 0 ∷ []) 8 ≡ None)
+    × (stored (0 ∷ 1 ∷ 1 ∷ 0 ∷ 255 ∷ 0 ∷ 2 ∷ 0 ∷ []) 8 ≡ None)
+    × (stored (4 ∷ 0 ∷ 1 ∷ 0 ∷ 4 ∷ 0 ∷ 1 ∷ 0 ∷ 3 ∷ 255 ∷ 1 ∷ 0 ∷ 2 ∷ 255 ∷ 1 ∷ 0 ∷ []) 16 ≡ None)
+    × (map (stored four) (6 ∷ 7 ∷ 8 ∷ 9 ∷ 10 ∷ 12 ∷ 17 ∷ 19 ∷ []) ≡ replicate 8 None)
 unfolding shown
 malformed_rows = (refl, refl, refl, refl, refl, refl, refl, refl, refl, refl, refl)
 
@@ -73,32 +71,32 @@ number_rows : map settings_refusal_number (Malformed ∷ Missing ∷ ValueLength
 number_rows = refl
 
 -- the last entry of the name that is not above the version; at equal versions the later; an empty value is one
-answer_rows : (find 5 0 four 20 [] 0 ≡ Refused Missing)
-    × (find 5 1 four 20 [] 0 ≡ Board (span 4 5))
-    × (find 5 2 four 20 [] 0 ≡ Board (span 4 5))
-    × (find 5 3 four 11 [] 0 ≡ Board (span 9 11))
-    × (find 5 3 four 20 [] 0 ≡ Board (span 20 20))
-    × (find 5 65535 four 20 [] 0 ≡ Board (span 20 20))
-    × (find 6 2 four 20 [] 0 ≡ Refused Missing)
-    × (find 6 3 four 20 [] 0 ≡ Board (span 15 16))
-    × (find 7 65535 four 20 [] 0 ≡ Refused Missing)
-    × (find 7 512 small 6 [] 0 ≡ Refused Missing)
-    × (find 7 513 small 6 [] 0 ≡ Board (span 4 6))
+answer_rows : (find 5 0 four 20 [] 0 ≡ Err Missing)
+    × (find 5 1 four 20 [] 0 ≡ Ok (Board (span 4 5)))
+    × (find 5 2 four 20 [] 0 ≡ Ok (Board (span 4 5)))
+    × (find 5 3 four 11 [] 0 ≡ Ok (Board (span 9 11)))
+    × (find 5 3 four 20 [] 0 ≡ Ok (Board (span 20 20)))
+    × (find 5 65535 four 20 [] 0 ≡ Ok (Board (span 20 20)))
+    × (find 6 2 four 20 [] 0 ≡ Err Missing)
+    × (find 6 3 four 20 [] 0 ≡ Ok (Board (span 15 16)))
+    × (find 7 65535 four 20 [] 0 ≡ Err Missing)
+    × (find 7 512 small 6 [] 0 ≡ Err Missing)
+    × (find 7 513 small 6 [] 0 ≡ Ok (Board (span 4 6)))
 unfolding shown
 answer_rows = (refl, refl, refl, refl, refl, refl, refl, refl, refl, refl, refl)
 
 -- the board comes before the defaults, with an older entry and with an empty value too; the defaults where the board has none that answers; 41 for
 -- either store, though the other answers and though neither has the name
-store_rows : (find 5 9 four 5 four 20 ≡ Board (span 4 5))
-    × (find 5 9 four 20 four 5 ≡ Board (span 20 20))
-    × (find 7 513 four 20 small 6 ≡ Default (span 4 6))
-    × (find 5 2 (3 ∷ 0 ∷ 5 ∷ 0 ∷ []) 4 four 20 ≡ Default (span 4 5))
-    × (find 7 512 four 20 small 6 ≡ Refused Missing)
-    × (find 5 9 four 20 small 5 ≡ Refused Malformed)
-    × (find 5 9 small 5 four 20 ≡ Refused Malformed)
-    × (find 8 9 four 20 small 7 ≡ Refused Malformed)
-    × (find 8 9 [] 0 [] 1 ≡ Refused Malformed)
-    × (find 8 9 [] 0 [] 0 ≡ Refused Missing)
+store_rows : (find 5 9 four 5 four 20 ≡ Ok (Board (span 4 5)))
+    × (find 5 9 four 20 four 5 ≡ Ok (Board (span 20 20)))
+    × (find 7 513 four 20 small 6 ≡ Ok (Default (span 4 6)))
+    × (find 5 2 (3 ∷ 0 ∷ 5 ∷ 0 ∷ []) 4 four 20 ≡ Ok (Default (span 4 5)))
+    × (find 7 512 four 20 small 6 ≡ Err Missing)
+    × (find 5 9 four 20 small 5 ≡ Err Malformed)
+    × (find 5 9 small 5 four 20 ≡ Err Malformed)
+    × (find 8 9 four 20 small 7 ≡ Err Malformed)
+    × (find 8 9 [] 0 [] 1 ≡ Err Malformed)
+    × (find 8 9 [] 0 [] 0 ≡ Err Missing)
 unfolding shown
 store_rows = (refl, refl, refl, refl, refl, refl, refl, refl, refl, refl)
 
@@ -108,12 +106,12 @@ byte_rows : (bytes_of (find 5 3 four 11 [] 0) four [] ≡ 21 ∷ 22 ∷ [])
     × (bytes_of (find 5 9 four 20 small 6) four small ≡ [])
     × (bytes_of (find 9 9 (long 64) 68 [] 0) (long 64) [] ≡ replicate 64 1)
     × (bytes_of (find 8 9 four 20 small 6) four small ≡ [])
-    × (map refusal_of (Board (span 0 1) ∷ Default (span 0 1) ∷ Refused Missing ∷ []) ≡ 0 ∷ 0 ∷ 42 ∷ [])
+    × (map refusal_of (Ok (Board (span 0 1)) ∷ Ok (Default (span 0 1)) ∷ Err Missing ∷ []) ≡ 0 ∷ 0 ∷ 42 ∷ [])
 unfolding shown
 byte_rows = (refl, refl, refl, refl, refl, refl)
 
 kept : List ℕ → ℕ → Stored
-kept s n = record { store = s; answer = Added n }
+kept s n = record { store = s; answer = Ok n }
 
 -- adding: into an empty store, behind an entry, at the same version; the bytes behind stay; exactly enough room
 add_rows : (entry_bytes 513 7 (10 ∷ 11 ∷ []) ≡ small)
@@ -126,17 +124,17 @@ unfolding shown kept
 add_rows = (refl, refl, refl, refl, refl, refl)
 
 -- the answers where all four refusals hold, the last three, and so on; 45 at one byte less than the entry needs, in an empty and in a full store
-refused_rows : ((add_of 7 0 (replicate 65 1) small 5).answer ≡ NotAdded Malformed)
-    × ((add_of 7 0 (replicate 65 1) small 7).answer ≡ NotAdded Malformed)
-    × ((add_of 7 0 (replicate 65 1) small 6).answer ≡ NotAdded ValueLength)
-    × ((add_of 7 600 (replicate 65 1) (replicate 69 0) 0).answer ≡ NotAdded ValueLength)
-    × ((add_of 7 0 (replicate 64 1) small 6).answer ≡ NotAdded VersionFalls)
-    × ((add_of 7 512 [] (small ++ replicate 4 99) 6).answer ≡ NotAdded VersionFalls)
-    × ((add_of 7 513 [] small 6).answer ≡ NotAdded Full)
-    × ((add_of 7 513 [] (small ++ replicate 3 99) 6).answer ≡ NotAdded Full)
-    × ((add_of 7 0 [] (replicate 3 99) 0).answer ≡ NotAdded Full)
-    × ((add_of 7 0 (replicate 64 1) (replicate 67 99) 0).answer ≡ NotAdded Full)
-    × (add_of 7 513 (1 ∷ 2 ∷ []) (small ++ replicate 5 99) 6 ≡ record { store = small ++ replicate 5 99; answer = NotAdded Full })
+refused_rows : ((add_of 7 0 (replicate 65 1) small 5).answer ≡ Err Malformed)
+    × ((add_of 7 0 (replicate 65 1) small 7).answer ≡ Err Malformed)
+    × ((add_of 7 0 (replicate 65 1) small 6).answer ≡ Err ValueLength)
+    × ((add_of 7 600 (replicate 65 1) (replicate 69 0) 0).answer ≡ Err ValueLength)
+    × ((add_of 7 0 (replicate 64 1) small 6).answer ≡ Err VersionFalls)
+    × ((add_of 7 512 [] (small ++ replicate 4 99) 6).answer ≡ Err VersionFalls)
+    × ((add_of 7 513 [] small 6).answer ≡ Err Full)
+    × ((add_of 7 513 [] (small ++ replicate 3 99) 6).answer ≡ Err Full)
+    × ((add_of 7 0 [] (replicate 3 99) 0).answer ≡ Err Full)
+    × ((add_of 7 0 (replicate 64 1) (replicate 67 99) 0).answer ≡ Err Full)
+    × (add_of 7 513 (1 ∷ 2 ∷ []) (small ++ replicate 5 99) 6 ≡ record { store = small ++ replicate 5 99; answer = Err Full })
     × ((add_of 7 512 [] (small ++ replicate 4 99) 6).store ≡ small ++ replicate 4 99)
 unfolding shown
 refused_rows = (refl, refl, refl, refl, refl, refl, refl, refl, refl, refl, refl, refl)
@@ -146,27 +144,27 @@ refused_rows = (refl, refl, refl, refl, refl, refl, refl, refl, refl, refl, refl
 told : ℕ → Option Entry → EntryTold
 told r e = record { refusal = r; found = e }
 
-nth_rows : (nth_of 0 (stored four 20) ≡ told 0 (some (entry 1 5 4 5)))
-    × (nth_of 1 (stored four 20) ≡ told 0 (some (entry 3 5 9 11)))
-    × (nth_of 3 (stored four 20) ≡ told 0 (some (entry 3 5 20 20)))
-    × (nth_of 4 (stored four 20) ≡ told 0 none)
-    × (nth_of 9 (stored four 20) ≡ told 0 none)
-    × (nth_of 0 (stored [] 0) ≡ told 0 none)
-    × (nth_of 0 (stored four 10) ≡ told 41 none)
-    × (nth_of 0 (stored four 21) ≡ told 41 none)
-    × (nth_of 9 (stored small 5) ≡ told 41 none)
-    × (map (λ (a : NthEntry). (entry_told a).refusal) (There (entry 1 5 4 5) ∷ End ∷ NoEntry ∷ []) ≡ 0 ∷ 0 ∷ 41 ∷ [])
+nth_rows : (nth_of 0 (stored four 20) ≡ told 0 (Some (entry 1 5 4 5)))
+    × (nth_of 1 (stored four 20) ≡ told 0 (Some (entry 3 5 9 11)))
+    × (nth_of 3 (stored four 20) ≡ told 0 (Some (entry 3 5 20 20)))
+    × (nth_of 4 (stored four 20) ≡ told 0 None)
+    × (nth_of 9 (stored four 20) ≡ told 0 None)
+    × (nth_of 0 (stored [] 0) ≡ told 0 None)
+    × (nth_of 0 (stored four 10) ≡ told 41 None)
+    × (nth_of 0 (stored four 21) ≡ told 41 None)
+    × (nth_of 9 (stored small 5) ≡ told 41 None)
+    × (map (λ (a : Result (Option Entry) SettingsRefusal). (entry_told a).refusal) (Ok (Some (entry 1 5 4 5)) ∷ Ok None ∷ Err Malformed ∷ []) ≡ 0 ∷ 0 ∷ 41 ∷ [])
 unfolding shown told
 nth_rows = (refl, refl, refl, refl, refl, refl, refl, refl, refl, refl)
 
 -- an answer's numbers: the store, the span, and each refusal
-located_rows : (located (Board (span 4 9)) ≡ record { refusal = 0; store = 1; start = 4; end = 9 })
-    × (located (Default (span 8 8)) ≡ record { refusal = 0; store = 2; start = 8; end = 8 })
-    × (map (λ (r : SettingsRefusal). (located (Refused r)).refusal)
+located_rows : (located (Ok (Board (span 4 9))) ≡ record { refusal = 0; store = 1; start = 4; end = 9 })
+    × (located (Ok (Default (span 8 8))) ≡ record { refusal = 0; store = 2; start = 8; end = 8 })
+    × (map (λ (r : SettingsRefusal). (located (Err r)).refusal)
     (Malformed ∷ Missing ∷ ValueLength ∷ VersionFalls ∷ Full ∷ [])
     ≡ 41 ∷ 42 ∷ 43 ∷ 44 ∷ 45 ∷ [])
-    × (located (Refused Missing) ≡ record { refusal = 42; store = 0; start = 0; end = 0 })
-    × (added_to small (Added 6) ≡ record { store = small; refusal = 0; used = 6 })
-    × (added_to small (NotAdded Full) ≡ record { store = small; refusal = 45; used = 0 })
+    × (located (Err Missing) ≡ record { refusal = 42; store = 0; start = 0; end = 0 })
+    × (added_to small (Ok 6) ≡ record { store = small; refusal = 0; used = 6 })
+    × (added_to small (Err Full) ≡ record { store = small; refusal = 45; used = 0 })
 unfolding shown
 located_rows = (refl, refl, refl, refl, refl, refl)

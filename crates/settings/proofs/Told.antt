@@ -2,20 +2,17 @@
 use Prim.Native.Nat.{ℕ, zero, suc, ◌-◌}
 use mathlib.Core.Path.{◌≡◌, refl, ap, sym, ◌∙◌}
 use mathlib.Core.List.{List, [], ◌∷◌}
-use mathlib.Core.Option.{Option, none, some}
 use lib.ListN.{get_or}
+use Rattle.std.specs.Prelude.{Result, Ok, Err, Some, None, Option}
 use Rattle.settings.specs.declared.Entry.{Entry}
 use Rattle.settings.specs.declared.Place.{Place}
-use Rattle.settings.specs.declared.Place.TheVariants.{Board, Default, Refused}
-use Rattle.settings.specs.declared.AddAnswer.{AddAnswer}
-use Rattle.settings.specs.declared.AddAnswer.TheVariants.{Added, Refused as NotAdded}
-use Rattle.settings.specs.declared.NthEntry.{NthEntry}
-use Rattle.settings.specs.declared.NthEntry.TheVariants.{There, End, Malformed}
+use Rattle.settings.specs.declared.Place.TheVariants.{Board, Default}
 use Rattle.settings.specs.declared.SettingsRefusal.{SettingsRefusal}
 use Rattle.settings.specs.declared.SettingsRefusal.TheVariants.{Malformed as Bad, Missing, ValueLength}
 use Rattle.settings.specs.declared.SettingsRefusal.TheVariants.{VersionFalls, Full}
 use Rattle.settings.specs.Entries.{EntryTold, entry_told}
-use Rattle.settings.specs.Find.{settings_refusal_number, Located, located}
+use Rattle.settings.specs.Refusals.{settings_refusal_number}
+use Rattle.settings.specs.Find.{Located, located}
 use Rattle.settings.specs.Add.{AddedTo, added_to}
 use Rattle.settings.proofs.Rows
 
@@ -35,64 +32,68 @@ pub settings_refusal_number_injective : (r q : SettingsRefusal)
 settings_refusal_number_injective r q e = sym (refusal_back r) ∙ ap refusal_at e ∙ refusal_back q
 
 -- of a lookup
-abbrev place_from : Located → Place
+abbrev place_from : Located → Result Place SettingsRefusal
 place_from l =
     get_or
-    (Refused (refusal_at l.refusal) ∷ Board (record { start = l.start; end = l.end })
-    ∷ Default (record { start = l.start; end = l.end }) ∷ [])
-    l.store (Refused Full)
+    (Err (refusal_at l.refusal) ∷ Ok (Board (record { start = l.start; end = l.end }))
+    ∷ Ok (Default (record { start = l.start; end = l.end })) ∷ [])
+    l.store (Err Full)
 
-place_back : (p : Place) → place_from (located p) ≡ p
+place_back : (p : Result Place SettingsRefusal) → place_from (located p) ≡ p
 unfolding located
-place_back (Board x) = refl
-place_back (Default x) = refl
-place_back (Refused r) = ap Refused (refusal_back r)
+place_back (Ok (Board x)) = refl
+place_back (Ok (Default x)) = refl
+place_back (Err r) = ap Err (refusal_back r)
 
-pub located_injective : (a b : Place) → located a ≡ located b → a ≡ b
+pub located_injective : (a b : Result Place SettingsRefusal) → located a ≡ located b → a ≡ b
 located_injective a b e = sym (place_back a) ∙ ap place_from e ∙ place_back b
 
 -- of an add
-added_from : ℕ → ℕ → AddAnswer
-added_from zero n = Added n
-added_from (suc r) n = NotAdded (refusal_at (suc r))
+added_from : ℕ → ℕ → Result ℕ SettingsRefusal
+added_from zero n = Ok n
+added_from (suc r) n = Err (refusal_at (suc r))
 
-abbrev answer_from : AddedTo → AddAnswer
+abbrev answer_from : AddedTo → Result ℕ SettingsRefusal
 answer_from a = added_from a.refusal a.used
 
-answer_back : (s : List ℕ) (a : AddAnswer) → answer_from (added_to s a) ≡ a
+answer_back : (s : List ℕ) (a : Result ℕ SettingsRefusal) → answer_from (added_to s a) ≡ a
 unfolding added_from added_to
-answer_back s (Added n) = refl
-answer_back s (NotAdded Bad) = refl
-answer_back s (NotAdded Missing) = refl
-answer_back s (NotAdded ValueLength) = refl
-answer_back s (NotAdded VersionFalls) = refl
-answer_back s (NotAdded Full) = refl
+answer_back s (Ok n) = refl
+answer_back s (Err Bad) = refl
+answer_back s (Err Missing) = refl
+answer_back s (Err ValueLength) = refl
+answer_back s (Err VersionFalls) = refl
+answer_back s (Err Full) = refl
 
-store_of : (s : List ℕ) (a : AddAnswer) → (added_to s a).store ≡ s
+store_of : (s : List ℕ) (a : Result ℕ SettingsRefusal) → (added_to s a).store ≡ s
 unfolding added_to
-store_of s (Added n) = refl
-store_of s (NotAdded r) = refl
+store_of s (Ok n) = refl
+store_of s (Err r) = refl
 
-pub added_to_injective : (s t : List ℕ) (a b : AddAnswer) → added_to s a ≡ added_to t b → (s ≡ t) × (a ≡ b)
+pub added_to_injective : (s t : List ℕ) (a b : Result ℕ SettingsRefusal) → added_to s a ≡ added_to t b → (s ≡ t) × (a ≡ b)
 added_to_injective s t a b e = (
   sym (store_of s a) ∙ ap (λ (x : AddedTo). x.store) e ∙ store_of t b,
   sym (answer_back s a) ∙ ap answer_from e ∙ answer_back t b,
 )
 
 -- of an entry by its number
-entry_found : Option Entry → ℕ → NthEntry
-entry_found (some e) n = There e
-entry_found none zero = End
-entry_found none (suc n) = Malformed
+entry_found : Option Entry → ℕ → Result (Option Entry) SettingsRefusal
+entry_found (Some e) n = Ok (Some e)
+entry_found None zero = Ok None
+entry_found None (suc n) = Err (refusal_at (suc n))
 
-abbrev entry_from : EntryTold → NthEntry
+abbrev entry_from : EntryTold → Result (Option Entry) SettingsRefusal
 entry_from t = entry_found t.found t.refusal
 
-entry_back : (a : NthEntry) → entry_from (entry_told a) ≡ a
+entry_back : (a : Result (Option Entry) SettingsRefusal) → entry_from (entry_told a) ≡ a
 unfolding entry_found entry_told
-entry_back (There e) = refl
-entry_back End = refl
-entry_back Malformed = refl
+entry_back (Ok (Some e)) = refl
+entry_back (Ok None) = refl
+entry_back (Err Bad) = refl
+entry_back (Err Missing) = refl
+entry_back (Err ValueLength) = refl
+entry_back (Err VersionFalls) = refl
+entry_back (Err Full) = refl
 
-pub entry_told_injective : (a b : NthEntry) → entry_told a ≡ entry_told b → a ≡ b
+pub entry_told_injective : (a b : Result (Option Entry) SettingsRefusal) → entry_told a ≡ entry_told b → a ≡ b
 entry_told_injective a b e = sym (entry_back a) ∙ ap entry_from e ∙ entry_back b

@@ -1,14 +1,10 @@
 -- A store as a run of entries (rules 20.1 to 20.3): what stands at a place, and all entries one behind the other.
 use Rattle.std.specs.Prelude.{ℕ, zero, suc, ◌+◌, ◌*◌, List, [], ◌∷◌, Bool, cond, ◌&&◌, length, take, get_or, leb, eqb}
-use Rattle.std.proofs.Math.Option.{Option, none, some}
-use Rattle.std.proofs.Math.ListN.{get_elem?}
+use Rattle.std.specs.Prelude.{Result, Ok, Err, Some, None, Option, slice_get}
 use Rattle.settings.specs.declared.Entry.{Entry}
-use Rattle.settings.specs.declared.Read.{Read}
-use Rattle.settings.specs.declared.Read.TheVariants.{Whole, Bad}
-use Rattle.settings.specs.declared.Last.{Last}
-use Rattle.settings.specs.declared.Last.TheVariants.{Version, Malformed as LastMalformed}
-use Rattle.settings.specs.declared.NthEntry.{NthEntry}
-use Rattle.settings.specs.declared.NthEntry.TheVariants.{There, End, Malformed}
+use Rattle.settings.specs.declared.SettingsRefusal.{SettingsRefusal}
+use Rattle.settings.specs.declared.SettingsRefusal.TheVariants.{Malformed}
+use Rattle.settings.specs.Refusals.{settings_refusal_number}
 
 -- rule 20.2, an entry: its version (2 bytes, the lower first), its name (1), its value's length (1), its value
 abbrev pub entry_at : ℕ → List ℕ → Entry
@@ -27,36 +23,36 @@ entry_fits last at s =
     leb (at + 4) (length s) && (leb e.end (at + 68) && (leb last e.version && leb e.end (length s)))
 
 -- the entry at a place, if it fits
-unfoldable pub read_entry : ℕ → ℕ → List ℕ → Read
-read_entry last at s = cond (entry_fits last at s) (Whole (entry_at at s)) Bad
+unfoldable pub read_entry : ℕ → ℕ → List ℕ → Option Entry
+read_entry last at s = cond (entry_fits last at s) (Some (entry_at at s)) None
 
 unfoldable pub in_front : Entry → Option (List Entry) → Option (List Entry)
-in_front e none = none
-in_front e (some es) = some (e ∷ es)
+in_front e None = None
+in_front e (Some es) = Some (e ∷ es)
 
 -- the entries from a place to the end of s, behind an entry of version `last`; none where one does not fit. At most `fuel` entries
 unfoldable pub entries_from : ℕ → ℕ → ℕ → List ℕ → Option (List Entry)
-entries_from zero last at s = cond (leb (length s) at) (some []) none
+entries_from zero last at s = cond (leb (length s) at) (Some []) None
 entries_from (suc fuel) last at s =
     let e = entry_at at s in
     let rest = in_front e (entries_from fuel e.version e.end s) in
-    cond (leb (length s) at) (some []) (cond (entry_fits last at s) rest none)
+    cond (leb (length s) at) (Some []) (cond (entry_fits last at s) rest None)
 
 unfoldable pub entries : List ℕ → Option (List Entry)
 entries s = entries_from (length s) 0 0 s
 
 -- rule 20.1: the entries of a store are those of its used bytes; none where it is malformed
 unfoldable pub stored : List ℕ → ℕ → Option (List Entry)
-stored s used = cond (leb used (length s)) (entries (take used s)) none
+stored s used = cond (leb used (length s)) (entries (take used s)) None
 
 -- the version of the last of these entries, which stand behind one of version `last`
 unfoldable pub newest : ℕ → List Entry → ℕ
 newest last [] = last
 newest last (e ∷ es) = newest e.version es
 
-unfoldable pub last_of : Option (List Entry) → Last
-last_of none = LastMalformed
-last_of (some es) = Version (newest 0 es)
+unfoldable pub last_of : Option (List Entry) → Result ℕ SettingsRefusal
+last_of None = Err Malformed
+last_of (Some es) = Ok (newest 0 es)
 
 -- rule 20.10: what is told of an entry that is asked for by its number: 41 where the store is malformed; else the
 -- entry, if there are so many
@@ -64,15 +60,15 @@ pub record EntryTold : Type 0 where
   pub refusal : ℕ
   pub found : Option Entry
 
-unfoldable pub entry_told : NthEntry → EntryTold
-entry_told (There e) = record { refusal = 0; found = some e }
-entry_told End = record { refusal = 0; found = none }
-entry_told Malformed = record { refusal = 41; found = none }
+unfoldable pub entry_told : Result (Option Entry) SettingsRefusal → EntryTold
+entry_told (Ok (Some e)) = record { refusal = 0; found = Some e }
+entry_told (Ok None) = record { refusal = 0; found = None }
+entry_told (Err r) = record { refusal = settings_refusal_number r; found = None }
 
 unfoldable pub nth_of : ℕ → Option (List Entry) → EntryTold
-nth_of n none = record { refusal = 41; found = none }
-nth_of n (some es) = record { refusal = 0; found = get_elem? es n }
+nth_of n None = record { refusal = 41; found = None }
+nth_of n (Some es) = record { refusal = 0; found = slice_get es n }
 
 -- an entry where its number is the one asked for, else what was found before
-unfoldable pub picked : ℕ → NthEntry → ℕ → Entry → NthEntry
-picked n before number e = cond (eqb number n) (There e) before
+unfoldable pub picked : ℕ → Option Entry → ℕ → Entry → Option Entry
+picked n before number e = cond (eqb number n) (Some e) before

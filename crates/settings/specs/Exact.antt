@@ -1,6 +1,5 @@
 -- What is said of stores and answers without reading from the front: which bytes are a run of entries, and which entry answers.
-use Rattle.std.specs.Prelude.{ℕ, ◌+◌, ◌≤◌, ◌<◌, ◌≡◌, List, [], ◌∷◌, ◌++◌, true, false, length}
-use Rattle.std.proofs.Math.Option.{some}
+use Rattle.std.specs.Prelude.{ℕ, ◌+◌, ◌≤◌, ◌<◌, ◌≡◌, List, [], ◌∷◌, ◌++◌, true, false, length, Some}
 use Rattle.settings.specs.declared.Span.{Span}
 use Rattle.settings.specs.declared.Entry.{Entry}
 use Rattle.settings.specs.Entries.{stored}
@@ -54,7 +53,7 @@ pub record LastAnswers (name version : ℕ) (es : List Entry) (x : Span) : Type 
 pub record Missed (name version : ℕ) (b : List ℕ) (bu : ℕ) (d : List ℕ) (du : ℕ) : Type 0 where
   pub own : List Entry
   pub others : List Entry
-  pub own_stored : stored b bu ≡ some own
-  pub others_stored : stored d du ≡ some others
+  pub own_stored : stored b bu ≡ Some own
+  pub others_stored : stored d du ≡ Some others
   pub own_silent : NoneAnswers name version own
   pub others_silent : NoneAnswers name version others

@@ -1,4 +1,5 @@
 -- The crate's definitions.
+pub mod Refusals
 pub mod Entries
 pub mod Find
 pub mod Add

@@ -4,10 +4,10 @@ ghost use Rattle.settings.specs.Entries.{entries, stored};
 ghost use Rattle.settings.specs.Find.{later, found_in, chosen, find, located, refusal_of, bytes_of, lies_at};
 
 use crate::entries::read_entry;
-use crate::{Entry, Found, Place, Read, Scan, SettingsRefusal, Span};
+use crate::{Entry, Place, SettingsRefusal, Span};
 
 // Where the entry's value lies if it answers, else what was found before.
-fn later(before: Found, entry: Entry, name: u8, version: u16) -> Found
+fn later(before: Option<Span>, entry: Entry, name: u8, version: u16) -> Option<Span>
     ensures { result ≡ later name version before entry }
 {
     if entry.name != name {
@@ -16,57 +16,58 @@ fn later(before: Found, entry: Entry, name: u8, version: u16) -> Found
     if version < entry.version {
         return before;
     }
-    Found::At(Span {
+    Some(Span {
         start: entry.start,
         end: entry.end,
     })
 }
 
 // What these entries have for a name at a version.
-fn find_in(store: &[u8], name: u8, version: u16) -> Scan
+fn find_in(store: &[u8], name: u8, version: u16) -> Result<Option<Span>, SettingsRefusal>
     ensures { result ≡ found_in name version (entries store.now) }
 {
-    let mut found = Found::Nothing;
+    let mut found = None;
     let mut last: u16 = 0;
     let mut at: usize = 0;
     while at < store.len() {
-        let Read::Whole(entry) = read_entry(store, at, last) else {
-            return Scan::Malformed;
+        let Some(entry) = read_entry(store, at, last) else {
+            return Err(SettingsRefusal::Malformed);
         };
         found = later(found, entry, name, version);
         last = entry.version;
         at = entry.end;
     }
-    Scan::Done(found)
+    Ok(found)
 }
 
 // The same of a store's used bytes.
-fn find_used(store: &[u8], used: usize, name: u8, version: u16) -> Scan
+fn find_used(
+    store: &[u8],
+    used: usize,
+    name: u8,
+    version: u16,
+) -> Result<Option<Span>, SettingsRefusal>
     ensures { result ≡ found_in name version (stored store.now used) }
 {
     if store.len() < used {
-        return Scan::Malformed;
+        return Err(SettingsRefusal::Malformed);
     }
     find_in(&store[..used], name, version)
 }
 
 // The board's value, else the default.
-fn chosen(board: Scan, default: Scan) -> Place
+#[tactic(auto, unfolding(crate::specs::Find::chosen))]
+fn chosen(
+    board: Result<Option<Span>, SettingsRefusal>,
+    default: Result<Option<Span>, SettingsRefusal>,
+) -> Result<Place, SettingsRefusal>
     ensures { result ≡ chosen board default }
 {
-    let Scan::Done(own) = board else {
-        return Place::Refused(SettingsRefusal::Malformed);
-    };
-    let Scan::Done(other) = default else {
-        return Place::Refused(SettingsRefusal::Malformed);
-    };
-    let Found::At(first) = own else {
-        let Found::At(second) = other else {
-            return Place::Refused(SettingsRefusal::Missing);
-        };
-        return Place::Default(second);
-    };
-    Place::Board(first)
+    let own = board?;
+    let other = default?;
+    own.map(Place::Board)
+        .or(other.map(Place::Default))
+        .ok_or(SettingsRefusal::Missing)
 }
 
 // Where the value of a name at a version lies: in the board's store, else in the defaults.
@@ -77,7 +78,7 @@ pub fn find(
     defaults_used: usize,
     name: u8,
     version: u16,
-) -> Place
+) -> Result<Place, SettingsRefusal>
     ensures { located result
         ≡ located (find name version board.now board_used defaults.now defaults_used) }
 {
@@ -104,19 +105,19 @@ pub fn lookup<'a>(
     ensures refuses { refusal.new ≡ refusal_of (find name version board.now board_used defaults.now defaults_used) }
 {
     match find(board, board_used, defaults, defaults_used, name, version) {
-        Place::Board(span) => {
+        Ok(Place::Board(span)) => {
             *refusal = 0;
             let start = span.start;
             let end = span.end;
             &board[start..end]
         }
-        Place::Default(span) => {
+        Ok(Place::Default(span)) => {
             *refusal = 0;
             let start = span.start;
             let end = span.end;
             &defaults[start..end]
         }
-        Place::Refused(why) => {
+        Err(why) => {
             *refusal = why.number();
             &board[0..0]
         }

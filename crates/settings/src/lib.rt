@@ -3,7 +3,7 @@
 #![tactic(auto)]
 
 ghost use Rattle.std.specs.Prelude.{◌≡◌};
-ghost use Rattle.settings.specs.Find.{settings_refusal_number};
+ghost use Rattle.settings.specs.Refusals.{settings_refusal_number};
 
 mod adding;
 mod entries;
@@ -44,55 +44,11 @@ pub enum SettingsRefusal {
     Full,
 }
 
-// The entry at a place, if it is whole.
-#[derive(Clone, Copy)]
-pub(crate) enum Read {
-    Whole(Entry),
-    Bad,
-}
-
-// Where a value lies, if there is one.
-#[derive(Clone, Copy)]
-pub enum Found {
-    At(Span),
-    Nothing,
-}
-
-// What a store has for a name at a version.
-#[derive(Clone, Copy)]
-pub enum Scan {
-    Done(Found),
-    Malformed,
-}
-
-// The version of a store's last entry, 0 where it has none.
-#[derive(Clone, Copy)]
-pub(crate) enum Last {
-    Version(u16),
-    Malformed,
-}
-
-// The store in which a value lies, and where; or why there is none.
+// The store in which a value lies, and where.
 #[derive(Clone, Copy)]
 pub enum Place {
     Board(Span),
     Default(Span),
-    Refused(SettingsRefusal),
-}
-
-// An entry of a store by its number; or that there are not so many, or that the store is malformed.
-#[derive(Clone, Copy)]
-pub enum NthEntry {
-    There(Entry),
-    End,
-    Malformed,
-}
-
-// The new used length, or why no entry is added.
-#[derive(Clone, Copy)]
-pub enum AddAnswer {
-    Added(usize),
-    Refused(SettingsRefusal),
 }
 
 impl SettingsRefusal {

@@ -1,11 +1,11 @@
 -- The tally of the blocks that a walk meets is the definition's of the blocks that the heap is cut into; and the three
 -- counts make the whole.
+use Rattle.std.specs.Prelude.{Some}
 use Prim.Native.Nat.{ℕ, ◌+◌, ◌≤◌}
 use native.Mathlib.Omega.{arith}
 use mathlib.Core.Path.{◌≡◌, refl, ap}
 use mathlib.Core.List.{List, [], ◌∷◌}
 use mathlib.Core.Bool.{Bool, true, false}
-use mathlib.Core.Option.{some}
 use borrow.Author.Tests.{eqb-true}
 use lib.Dec.{eqb}
 use Rattle.layout.specs.Blocks.{Block, size, units, free, quarantined, live, QUARANTINED, parse}
@@ -39,7 +39,7 @@ count_parsed p q same bs = λ i. record {
   bytes = total_met (λ m. if_so (p m) m.size) (λ b. if_so (q b) (size b)) (λ at back b. ap (λ (t : Bool). if_so t (size b)) (same at back b)) 0 0 bs i;
 }
 
-module _ (s : List ℕ) (bs : List Block) (e : parse s ≡ some bs) where
+module _ (s : List ℕ) (bs : List Block) (e : parse s ≡ Some bs) where
   pub free_count : (tally_of (met s)).free ≡ count_of free bs
   unfolding tally_of
   free_count = rw (met_parsed s bs e) (count_parsed free_met free (λ at back b. refl) bs)

@@ -1,5 +1,6 @@
 -- The tally of the blocks that a walk meets, joined from the tally of each block: from where a walk stands, the tally so far and that of the blocks to come
 -- make the whole.
+use Rattle.std.specs.Prelude.{Some, None}
 use Prim.Native.Nat.{ℕ, zero, suc, ◌+◌, ◌≤◌}
 use native.Mathlib.Nat.{zero-add, add-zero}
 use native.Mathlib.Omega.{arith}
@@ -11,7 +12,6 @@ use lib.Dec.{leb}
 use lib.ListN.{length}
 use Rattle.lists.specs.Lists.{total}
 use Rattle.lookup.specs.declared.Met.{Met}
-use Rattle.lookup.specs.declared.Lookup.TheVariants.{Found, Missing}
 use Rattle.lookup.specs.Walk.{met_at, met_from, met, live_met}
 use Rattle.lookup.proofs.Walk.{met_known}
 use Rattle.survey.specs.Shares.{one_if, how_many}
@@ -165,7 +165,7 @@ module _ (s : List ℕ) where
   tallied_start = record { fuel = length s; enough = omega arith; same = sym (none_joined (tally_of (met_from (length s) 0 s))); small = within_none }
 
   module _ (at : ℕ) (t : Tally) (w : Tallied s at t) where
-    pub tallied_end : met_at at s ≡ Missing → t ≡ tally_of (met s)
+    pub tallied_end : met_at at s ≡ None → t ≡ tally_of (met s)
     unfolding met_from
     tallied_end e = sym (w.same ∙ ap (joined t) (nothing w.fuel) ∙ joined_none t)
       where
@@ -173,7 +173,7 @@ module _ (s : List ℕ) where
         nothing zero = refl
         nothing (suc k) = rw e
 
-    pub tallied_next : (m : Met) → met_at at s ≡ Found m → Tallied s (at + m.size) (joined t (single m))
+    pub tallied_next : (m : Met) → met_at at s ≡ Some m → Tallied s (at + m.size) (joined t (single m))
     unfolding met_from
     tallied_next m e = go w.fuel w.enough w.same
       where

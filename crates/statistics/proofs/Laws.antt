@@ -1,13 +1,13 @@
 -- What the statistics say of a heap that the check accepts: the three counts make the heap (rule 25.3), a request is
 -- refused for space exactly if it is longer than the number of its unit (rule 25.7), and the numbers by the tally of the
 -- blocks and by the pass over the records are the definitions'.
+use Rattle.std.specs.Prelude.{Some}
 use Prim.Native.Nat.{ℕ, ◌+◌, ◌-◌, ◌≤◌, ◌<◌}
 use native.Mathlib.Omega.{arith}
 use mathlib.Core.Path.{◌≡◌, ap, sym, ◌∙◌}
 use mathlib.Core.List.{List}
 use mathlib.Core.Bool.{true}
 use mathlib.Core.Logic.{◌⊎◌}
-use mathlib.Core.Option.{some}
 use lib.Dec.{ltb}
 use lib.ListN.{length}
 use borrow.Author.Tests.{lt-ltb}
@@ -62,7 +62,7 @@ unfolding alignment
 other_units e n = units_told e (object_length (table e) n)
 
 module _ (s : List ℕ) (k : Accounts) (ok : accounted s k ≡ true) where
-  pub cut : parse s ≡ some (blocks_of s)
+  pub cut : parse s ≡ Some (blocks_of s)
   cut = (accounted_cut s k ok).0
 
   whole : total size (blocks_of s) ≡ length s

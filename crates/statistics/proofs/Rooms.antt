@@ -1,11 +1,11 @@
 -- The room in free blocks and the space line (rule 8.6): a run has a base at a multiple of an alignment exactly if it is no longer than the greatest room from
 -- such a multiple on.
+use Rattle.std.specs.Prelude.{Option, Some, None}
 use Prim.Native.Nat.{ℕ, ◌+◌, ◌-◌, ◌≤◌, ◌<◌}
 use native.Mathlib.Omega.{arith}
 use mathlib.Core.Path.{◌≡◌, refl, sym, ◌∙◌}
 use mathlib.Core.List.{List, [], ◌∷◌}
 use mathlib.Core.Bool.{Bool, true, false}
-use mathlib.Core.Option.{Option, none, some}
 use borrow.Author.Tests.{leb-true, leb-false, le-leb, lt-leb, lt-ltb, le-ltb}
 use lib.Dec.{leb, ltb, eqb}
 use lib.ListN.{length}
@@ -61,7 +61,7 @@ room_tests a n l m = go (eqb m.serial 0) refl
     go true e = rw e within
     go false e = rw e (sym (lt-leb n 0 l))
 
-module _ (s : List ℕ) (bs : List Block) (e : parse s ≡ some bs) where
+module _ (s : List ℕ) (bs : List Block) (e : parse s ≡ Some bs) where
   -- the room is less than the heap
   pub rooms_inside : (a : ℕ) → 0 < a → most (room_in a) (met s) ≤ total size bs - 8
   unfolding most met_of total room_in
@@ -90,8 +90,8 @@ module _ (s : List ℕ) (bs : List Block) (e : parse s ≡ some bs) where
     based = go (first (has_room a n) (met s)) refl
       where
         go : (o : Option Met) → first (has_room a n) (met s) ≡ o → is_none (lowest_base (length s) (blocks_of s) a n) ≡ is_none o
-        go none q = rw (base_nowhere a n positive s bs e apart (fit_first a n s positive ∙ rw q))
-        go (some m) q = rw (base_found a n positive s bs e apart m (base_in a m) (fit_first a n s positive ∙ rw q)).lowest
+        go None q = rw (base_nowhere a n positive s bs e apart (fit_first a n s positive ∙ rw q))
+        go (Some m) q = rw (base_found a n positive s bs e apart m (base_in a m) (fit_first a n s positive ∙ rw q)).lowest
 
     -- so exactly if the greatest room is long enough
     pub room_exactly : is_none (lowest_base (length s) (blocks_of s) a n) ≡ ltb (most (room_in a) (met s)) n

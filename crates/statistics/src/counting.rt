@@ -23,10 +23,8 @@ pub(crate) fn used_records(words: &[u32; WORDS]) -> usize
     ensures { result ≡ how_many used (holds_of words.now) }
 {
     let mut count: usize = 0;
-    let mut i: usize = 0;
-    while i < HOLDS {
+    for i in 0..HOLDS {
         count += used_at(words, i);
-        i += 1;
     }
     count
 }

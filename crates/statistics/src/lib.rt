@@ -9,7 +9,7 @@ ghost use Rattle.words.specs.Words.{grant_in, edition_of, accounts_of};
 ghost use Rattle.statistics.specs.Statistics.{heap_statistics, quota_statistics, no_blocks, no_statistics, no_quota_statistics};
 
 use accounts::QUOTAS;
-use model::{Refusal, Verdict};
+use model::Refusal;
 use words::WORDS;
 
 mod counting;
@@ -115,7 +115,7 @@ fn grant_in(words: &[u32; WORDS], quota: usize) -> u32
 pub fn heap_statistics(heap: &[u8], words: &[u32; WORDS]) -> Statistics
     ensures { result ≡ heap_statistics (table (edition_of words.now)) heap.now (accounts_of words.now) }
 {
-    if let Verdict::Refused(refusal) = queries::check(heap, words) {
+    if let Err(refusal) = queries::check(heap, words) {
         return no_statistics(refusal.number());
     }
     let tally = walk(heap);
@@ -144,7 +144,7 @@ pub fn heap_statistics(heap: &[u8], words: &[u32; WORDS]) -> Statistics
 pub fn quota_statistics(heap: &[u8], words: &[u32; WORDS], quota: u32) -> QuotaStatistics
     ensures { result ≡ quota_statistics (table (edition_of words.now)) heap.now (accounts_of words.now) quota }
 {
-    if let Verdict::Refused(refusal) = queries::check(heap, words) {
+    if let Err(refusal) = queries::check(heap, words) {
         return no_quota_statistics(refusal.number());
     }
     if QUOTAS <= quota as usize {

@@ -6,7 +6,7 @@ ghost use Rattle.statistics.specs.Statistics.{if_so, higher};
 ghost use Rattle.statistics.specs.Tallies.{room_in, one_block, both_counts, single, joined, tally_of, Small, Within};
 
 use crate::BlockCount;
-use layout::{QUARANTINED, Start};
+use layout::QUARANTINED;
 
 // The free, live and quarantined blocks, the bytes of the largest free block, and the greatest room from a multiple of each unit on.
 #[derive(Clone, Copy)]
@@ -151,7 +151,7 @@ fn empty() -> Tally
     }
 }
 
-// The tally of the blocks that the walk meets.
+// The tally of the blocks that the walk meets. Each header says where the next one is, so no index is counted.
 pub(crate) fn walk(heap: &[u8]) -> Tally
     requires { length heap.now ≤ greatest_heap }
     ensures { result ≡ tally_of (met heap.now) }
@@ -159,7 +159,7 @@ pub(crate) fn walk(heap: &[u8]) -> Tally
     let mut tally = empty();
     let mut at: usize = 0;
     loop {
-        let Start::Block(header) = layout::start_at(heap, at) else {
+        let Some(header) = layout::start_at(heap, at) else {
             return tally;
         };
         let size = 8 * header.size;

@@ -3,12 +3,12 @@
 use Rattle.std.proofs.Common.{◌≡◌, ℕ, zero, suc, ◌+◌, ◌*◌, ◌<◌, ◌≤◌, Bool, true, false, cond, not, ◌&&◌, eqb, ltb, List, [], ◌∷◌, map, length, get_or, set, sym}
 use Rattle.std.proofs.Common.{refl, ap, ◌∙◌, arith, length-set, get_or-set_other, ne_eqb}
 use lib.Seq.{set_out}
+use Rattle.std.proofs.Common.{Option, Some, None, MatchOption, is_some}
 use Rattle.accounts.specs.declared.Hold.{Hold}
 use Rattle.accounts.specs.declared.Accounts.{Accounts}
 use Rattle.accounts.specs.Accounts.{QUOTAS, HOLDS, zero_hold, used, record_of, dropped, drop_records, first_from}
 use Rattle.layout.specs.Blocks.{start_at}
 use Rattle.layout.specs.declared.Header.{Header}
-use Rattle.layout.specs.declared.Start.TheVariants.{Block as Starts, Nothing}
 use Rattle.layout.proofs.Starts.{start_found}
 use Rattle.lists.specs.Lists.{all, any, keep}
 use Rattle.model.specs.Objects.{blocks_of}
@@ -21,15 +21,19 @@ use Rattle.lookup.proofs.Walk.{met_nothing, met_block}
 use Rattle.audit.specs.Keys.{well_formed}
 use Rattle.audit.proofs.Records.{well_used}
 use Rattle.audit.proofs.Consistency.{tests_well}
+use Rattle.words.specs.Words.{holds_of}
+use Rattle.survey.specs.declared.indexing.Tally.{Tally}
 use Rattle.survey.specs.Survey.{place_of, shares}
-use Rattle.survey.specs.Clauses.{sought, Told}
+use Rattle.survey.specs.Clauses.{sought, Index}
 use Rattle.survey.specs.Holders.{counts_held, held_flags, put_flags, Indexed}
 use Rattle.survey.proofs.Surveys.{place_any}
 
 -- the index, by what was told of it
-pub told_indexed : (words heads links : List ℕ) (low more : ℕ) (fine : Bool) → Told words fine heads links low more → Indexed words fine heads links
-told_indexed words heads links low more true t = (t.built, t.well)
-told_indexed words heads links low more false t = t
+pub told_indexed : (words heads links : List ℕ) (t : Option Tally)
+    → MatchOption t (all well_formed (holds_of words) ≡ false) (λ x. Index words heads links x.low x.used)
+    → Indexed words (is_some t) heads links
+told_indexed words heads links (Some x) t = (t.built, t.well)
+told_indexed words heads links None t = t
 
 -- a record of a serial is one of another quota than QUOTAS
 shares_any : (n : ℕ) (h : Hold) → well_formed h ≡ true → shares n QUOTAS h ≡ is_of n h
@@ -104,7 +108,7 @@ module _ {hs : List Hold} {s : List ℕ} {first table : List Bool} {i at : ℕ} 
   flagging_full h = sym (w.same ∙ put_out i (flags hs (met_from w.fuel at s)) table (omega (arith, w.long)))
 
   -- where nothing starts, the walk ends
-  pub flagging_ended : start_at at s ≡ Nothing → table ≡ put_flags 0 (held_flags hs s) first
+  pub flagging_ended : start_at at s ≡ None → table ≡ put_flags 0 (held_flags hs s) first
   unfolding met_from put_flags keep
   flagging_ended e = sym (w.same ∙ go w.fuel)
     where
@@ -113,7 +117,7 @@ module _ {hs : List Hold} {s : List ℕ} {first table : List Bool} {i at : ℕ} 
       go (suc k) = rw (met_nothing at s e)
 
   -- a block that starts there is the next
-  module _ (h : Header) (e : start_at at s ≡ Starts h) where
+  module _ (h : Header) (e : start_at at s ≡ Some h) where
     abbrev m : Met
     m = record { at = at; size = 8 * h.size; back = h.back; serial = h.serial }
 

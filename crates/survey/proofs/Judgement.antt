@@ -1,8 +1,8 @@
 -- The verdict: by the length and by the audit, whose parts are the index, what the quotas owe, and the walk.
+use Rattle.std.specs.Prelude.{Some, Ok, Err}
 use Rattle.std.proofs.Common.{◌≡◌, ℕ, ◌+◌, ◌%◌, ◌<◌, ◌≤◌, Bool, true, false, cond, ◌&&◌, eqb, ltb, leb, List, [], ◌∷◌, map, length, drop, sym, refl, ap, ◌∙◌}
 use Rattle.std.proofs.Common.{arith, length-drop, eqb-true, leb-true}
 use mathlib.Core.Bool.{and-true}
-use mathlib.Core.Option.{some}
 use lib.ListN.{length-map}
 use Rattle.accounts.specs.declared.Quota.{Quota}
 use Rattle.accounts.specs.declared.Accounts.{Accounts}
@@ -20,7 +20,6 @@ use Rattle.survey.proofs.Waiting.{waiting_all}
 use Rattle.survey.proofs.Closing.{left_long}
 use Rattle.survey.proofs.Opening.{keyed, ready}
 use Rattle.model.specs.declared.Refusal.TheVariants.{HeapLength, Inconsistent}
-use Rattle.model.specs.declared.Verdict.TheVariants.{Accepted, Refused}
 use Rattle.lists.specs.Lists.{all}
 use Rattle.model.specs.Answers.{verdict_values}
 use Rattle.model.specs.Consistent.{allowed, in_range, consistent, greatest_serial}
@@ -52,12 +51,12 @@ one_fails w true r f p e = and_no (w && r) (f && p) (and_no f p e)
 
 module _ (unit : ℕ → ℕ) (s : List ℕ) (k : Accounts) where
   -- a length that is not allowed
-  pub verdict_length : allowed (length s) ≡ false → verdict_values (Refused HeapLength) ≡ (check unit s k).values
+  pub verdict_length : allowed (length s) ≡ false → verdict_values (Err HeapLength) ≡ (check unit s k).values
   unfolding verdict_values check unless first_refusal row_lines line_1 line_2
   verdict_length e = rw e
 
   -- numbers that are not in range
-  pub verdict_range : allowed (length s) ≡ true → in_range k ≡ false → verdict_values (Refused Inconsistent) ≡ (check unit s k).values
+  pub verdict_range : allowed (length s) ≡ true → in_range k ≡ false → verdict_values (Err Inconsistent) ≡ (check unit s k).values
   unfolding verdict_values check unless first_refusal row_lines line_1 line_2
   verdict_range f e = rw (f, unranged unit s k e)
 
@@ -70,21 +69,21 @@ module _ (unit : ℕ → ℕ) (s : List ℕ) (k : Accounts) where
     same_verdict = ap (λ (x : Bool). x && beside) (audited_is_accounted s k long) ∙ fitting_consistent unit s k ranged
 
     -- an audit that fails, and one that passes
-    verdict_fails : (audited (parse s) k && beside) ≡ false → verdict_values (Refused Inconsistent) ≡ (check unit s k).values
+    verdict_fails : (audited (parse s) k && beside) ≡ false → verdict_values (Err Inconsistent) ≡ (check unit s k).values
     unfolding verdict_values check unless first_refusal row_lines line_1 line_2
     verdict_fails e = rw (fits, sym same_verdict ∙ e)
 
-    verdict_passes : (audited (parse s) k && beside) ≡ true → verdict_values Accepted ≡ (check unit s k).values
+    verdict_passes : (audited (parse s) k && beside) ≡ true → verdict_values (Ok tt) ≡ (check unit s k).values
     unfolding verdict_values check unless first_refusal row_lines line_1 line_2
     verdict_passes e = rw (fits, sym same_verdict ∙ e)
 
     -- a record that is not well-formed
-    pub verdict_ill : all well_formed k.holds ≡ false → verdict_values (Refused Inconsistent) ≡ (check unit s k).values
+    pub verdict_ill : all well_formed k.holds ≡ false → verdict_values (Err Inconsistent) ≡ (check unit s k).values
     unfolding audited
     verdict_ill e = verdict_fails (rw e)
 
     -- a remainder above its grant, or a number that is no permissions
-    pub verdict_insolvent : {owed : List ℕ} → Owing k.quotas false owed → verdict_values (Refused Inconsistent) ≡ (check unit s k).values
+    pub verdict_insolvent : {owed : List ℕ} → Owing k.quotas false owed → verdict_values (Err Inconsistent) ≡ (check unit s k).values
     unfolding audited
     verdict_insolvent w =
         verdict_fails
@@ -94,7 +93,7 @@ module _ (unit : ℕ → ℕ) (s : List ℕ) (k : Accounts) where
     -- the walk
     module _ {keys owed : List ℕ} (well : all well_formed k.holds ≡ true) (keyed : keys ≡ keys_of k.holds) (w : Owing k.quotas true owed) where
       audited_walk : (audited (parse s) k && beside)
-          ≡ (audit_parsed k.last_serial (parse s) (some (begin keys owed)) && fitting unit k.kind 0 (parse s))
+          ≡ (audit_parsed k.last_serial (parse s) (Some (begin keys owed)) && fitting unit k.kind 0 (parse s))
       unfolding audited
       audited_walk =
           let both = sym (valid_parts k.quotas) ∙ sym w.0 in
@@ -104,7 +103,7 @@ module _ (unit : ℕ → ℕ) (s : List ℕ) (k : Accounts) where
 
       -- as it is judged from the start on
       pub verdict_judged : (t : Bool) → t ≡ judged unit k.kind k.last_serial 0 (cut 0 (drop 0 s)) 1 keys owed
-          → verdict_values (cond t Accepted (Refused Inconsistent)) ≡ (check unit s k).values
+          → verdict_values (cond t (Ok tt) (Err Inconsistent)) ≡ (check unit s k).values
       unfolding judged parse
       verdict_judged true e = verdict_passes (audited_walk ∙ sym e)
       verdict_judged false e = verdict_fails (audited_walk ∙ sym e)
@@ -123,7 +122,7 @@ at_end n at a l e h = let z = eqb-true (n % 8) 0 (and_left (eqb (n % 8) 0) (leb 
 
 -- a walk to the end of a heap of an allowed length: whether records are open and quotas owe something decides
 pub walked_end : (unit : ℕ → ℕ) (kind last : ℕ) (s words : List ℕ) (whole : Bool) (at back before : ℕ) (heads links owed : List ℕ) (left : ℕ)
-    → allowed (length s) ≡ true → WalkedTo unit kind last 8 s words whole true at back before heads links owed left → whole ≡ (eqb left 0 && all_zero owed)
+    → allowed (length s) ≡ true → WalkedTo unit kind last 8 s words whole at back before heads links owed left → whole ≡ (eqb left 0 && all_zero owed)
 walked_end unit kind last s words whole at back before heads links owed left ok w =
     let keys = keys_left words heads links in
     w.2
@@ -146,7 +145,7 @@ module _ {words heads links owed : List ℕ} {low used : ℕ} (i : Index words h
   pub verdict_walked : (s : List ℕ) → allowed (length s) ≡ true → in_range (accounts_of words) ≡ true → (edition kind last : ℕ) → edition ≡ edition_of words
       → kind ≡ kind_of words → last ≡ last_of words
       → (t : Bool) → t ≡ judged (table edition) kind last 0 (cut 0 (drop 0 s)) 1 (keys_left words heads links) owed
-      → verdict_values (cond t Accepted (Refused Inconsistent)) ≡ (check (table (edition_of words)) s (accounts_of words)).values
+      → verdict_values (cond t (Ok tt) (Err Inconsistent)) ≡ (check (table (edition_of words)) s (accounts_of words)).values
   verdict_walked s fits ranged edition kind last e k l t j =
       verdict_judged (table (edition_of words)) s (accounts_of words) fits ranged (quotas_long words) i.well (keyed i) w t
       (j ∙ (λ n. judged (table (e n)) (k n) (l n) 0 (cut 0 (drop 0 s)) 1 (keys_left words heads links) owed))

@@ -1,6 +1,7 @@
 -- The lowest unused record, found from the first place up.
-use Rattle.std.proofs.Common.{◌≡◌, ℕ, ◌+◌, ◌<◌, ◌≤◌, Bool, true, false, cond, not, ltb, List, sym, refl, ap, ◌∙◌, subst, arith, ltb-false, ltb-true, le-ltb}
+use Rattle.std.proofs.Common.{◌≡◌, ℕ, ◌+◌, ◌<◌, ◌≤◌, Bool, true, false, min, not, ltb, List, sym, refl, ap, ◌∙◌, subst, arith, ltb-false, ltb-true, le-ltb}
 use Rattle.std.proofs.Common.{lt-ltb, ne_eqb}
+use Rattle.std.proofs.Math.Nat.{min-eq_left, min-eq_right}
 use Rattle.lists.proofs.Bools.{by_test, by_eq}
 use Rattle.accounts.specs.declared.Hold.{Hold}
 use Rattle.accounts.specs.Accounts.{HOLDS, used, unused, lowest_unused, first_from}
@@ -53,16 +54,16 @@ module _ {words : List ℕ} {top : ℕ} where
   lowest_start = record { inside = omega arith; found = λ l. absurd (omega arith); taken = λ p a b. absurd (omega arith); none_yet = λ l. refl }
 
   module _ {i low : ℕ} (g : Lowest words top i low) (l : i < top) where
-    pub lowest_here : well_formed (hold_in words i) ≡ true → (hold_in words i).serial ≡ 0 → Lowest words top (i + 1) (cond (ltb i low) i low)
+    pub lowest_here : well_formed (hold_in words i) ≡ true → (hold_in words i).serial ≡ 0 → Lowest words top (i + 1) (min low i)
     lowest_here w z =
         by_test (ltb i low)
-        (λ t. let a = ltb-true i low t in rw t (record {
+        (λ t. let a = ltb-true i low t in rw (min-eq_right {n = i} {m = low} (omega arith)) (record {
           inside = omega arith;
           found = λ b. no_serial (hold_in words i) w z;
           taken = λ p b c. g.taken p (omega arith) (omega arith);
           none_yet = λ b. absurd (omega arith);
         }))
-        (λ t. let a = ltb-false i low t in rw t (record {
+        (λ t. let a = ltb-false i low t in rw (min-eq_left {n = low} {m = i} a) (record {
           inside = g.inside;
           found = λ b. by_eq i low (λ e. let n = g.none_yet (omega arith) in absurd (omega arith)) (λ e. g.found (omega (arith, e)));
           taken = λ p b c. g.taken p (omega arith) c;

@@ -1,4 +1,5 @@
 -- The object that a handle names is that of the block before the edge, or of none.
+use Rattle.std.specs.Prelude.{Some, None}
 use Rattle.std.proofs.Common.{◌≡◌, ℕ, ◌+◌, ◌-◌, ◌*◌, ◌<◌, ◌≤◌, Bool, true, false, cond, eqb, ltb, leb, List, length, sym, ap, ◌∙◌, inl, inr, arith, ltb-false}
 use Rattle.std.proofs.Common.{ltb-true, eq-eqb, ne_eqb, le-leb, leb-false, leb-true}
 use mathlib.Core.Bool.{false≢true}
@@ -9,7 +10,6 @@ use Rattle.model.specs.declared.Handle.{Handle}
 use Rattle.lists.proofs.Bools.{and_right, and_no, fails, by_test}
 use Rattle.model.proofs.Lookup.{names_exactly}
 use Rattle.lookup.specs.declared.Met.{Met}
-use Rattle.lookup.specs.declared.Lookup.TheVariants.{Found, Missing}
 use Rattle.lookup.specs.Walk.{headed, met_at, live_met, object_met, holds_named, named_met, looked_up, find_object}
 use Rattle.lookup.proofs.Walk.{met_known, search_start, search_none}
 use Rattle.lookup.proofs.Reached.{object_low, object_high, object_here}
@@ -26,14 +26,14 @@ behind h m l =
     (λ e. let n = (names_exactly h (object_met m)).0 (and_right (live_met m) (names h (object_met m)) e) in omega (arith, n.some_byte, n.low, n.high))
 
 module _ (h : Handle) (s : List ℕ) where
-  object_end : length s ≤ h.base → find_object h s ≡ Missing
+  object_end : length s ≤ h.base → find_object h s ≡ None
   unfolding find_object
   object_end l =
       ap looked_up (search_none (holds_named h) s 0 (search_start (holds_named h) s)
       (λ x m g e. (let k = met_known x s m e in behind h m (omega (arith, k.place, k.inside)))))
 
   -- no object has the base
-  edge_none : edge_of h.base (length s) ≡ 8 → find_object h s ≡ Missing
+  edge_none : edge_of h.base (length s) ≡ 8 → find_object h s ≡ None
   unfolding edge_of
   edge_none e =
       by_test (ltb h.base 8)
@@ -61,7 +61,7 @@ module _ (h : Handle) (s : List ℕ) where
     abbrev Answer : Type 0
     Answer = (block_of found (at - 8 * back) s ≡ find_object h s) × (found ≡ true → 8 * back ≡ (block_at (at - 8 * back) s).size)
 
-    none : found ≡ false → find_object h s ≡ Missing → Answer
+    none : found ≡ false → find_object h s ≡ None → Answer
     unfolding block_of
     none e m = (rw e (sym m), λ t. absurd (false≢true (sym e ∙ t)))
 
@@ -76,11 +76,11 @@ module _ (h : Handle) (s : List ℕ) where
         let came = searching (w.reached (holds_named h) (λ n q. behind h n (omega (arith, is, b.0, b.1, b.2, w.far)))) in
         let here : find_object h s ≡ named_met h (met_at w.start s) =
         object_here h s w.start came (omega (arith, is, b.0, b.1, b.2, far, w.place, w.size, k.units)) in
-        let all : find_object h s ≡ cond (holds_named h m) (Found m) Missing = here ∙ ap (named_met h) w.there in
+        let all : find_object h s ≡ cond (holds_named h m) (Some m) None = here ∙ ap (named_met h) w.there in
         let same : found ≡ holds_named h m = named ∙ (λ i. holds_named h
         (record { at = x i; size = 8 * sym w.size i; back = 0; serial = sym w.serial i })) in
         let it : block_at (at - 8 * back) s ≡ m = ap (λ (y : ℕ). block_at y s) x ∙ met_block_at w.start s m w.there in (
-          (λ i. cond (same i) (Found (it i)) Missing) ∙ sym all,
+          (λ i. cond (same i) (Some (it i)) None) ∙ sym all,
           λ t. ap (λ (y : ℕ). 8 * y) (sym w.size) ∙ ap (λ (y : Met). y.size) (sym it),
         )
 

@@ -1,5 +1,5 @@
 -- The pass over the records: on the way, those before place i are well-formed and in the index; behind `top` all are blank.
-use Rattle.std.proofs.Common.{◌≡◌, ℕ, suc, ◌+◌, ◌-◌, ◌<◌, ◌≤◌, true, cond, ltb, List, get_or, sym, refl, ap, ◌∙◌, subst, inl, inr, arith, ltb-false, ltb-true}
+use Rattle.std.proofs.Common.{◌≡◌, ℕ, suc, ◌+◌, ◌-◌, ◌<◌, ◌≤◌, true, min, ltb, List, get_or, sym, refl, ap, ◌∙◌, subst, inl, inr, arith, ltb-false, ltb-true}
 use lib.ListN.{get_or-map}
 use Rattle.lists.proofs.Bools.{by_test, by_eq}
 use Rattle.accounts.specs.Accounts.{HOLDS, zero_hold}
@@ -45,7 +45,7 @@ module _ {words heads links : List ℕ} {top i low blank : ℕ} (g : Passed word
   inside : i < HOLDS
   inside = omega (arith, g.top_inside)
 
-  pub passed_blank : serial_in words i ≡ 0 → Passed words heads links top (i + 1) (cond (ltb i low) i low) (blank + 1)
+  pub passed_blank : serial_in words i ≡ 0 → Passed words heads links top (i + 1) (min low i) (blank + 1)
   passed_blank z =
       let s : suc i ≡ i + 1 = omega arith in
       record {

@@ -1,16 +1,14 @@
 -- The walk's way over the blocks: one block on, and what is known at the end.
+use Rattle.std.specs.Prelude.{Some, None}
 use Rattle.std.proofs.Common.{◌≡◌, ℕ, ◌+◌, ◌-◌, ◌*◌, ◌%◌, ◌<◌, ◌≤◌, Bool, true, false, cond, not, ltb, leb, List, length, drop, sym, refl, ap, ◌∙◌, inl, inr}
 use Rattle.std.proofs.Common.{arith, length-drop, ltb-false, ltb-true, eq-eqb, ne_eqb, le-leb, leb-false, leb-true}
-use mathlib.Core.Option.{some}
 use borrow.Author.Tests.{lt-leb}
 use Rattle.layout.specs.declared.Header.{Header}
-use Rattle.layout.specs.declared.Start.TheVariants.{Block as Starts, Nothing}
 use Rattle.layout.specs.Blocks.{read_header, header_at, starts_block, start_at}
 use Rattle.layout.proofs.Starts.{start_header}
 use Rattle.lists.specs.Lists.{first}
 use Rattle.lists.proofs.Bools.{and_no, by_test}
 use Rattle.lookup.specs.declared.Met.{Met}
-use Rattle.lookup.specs.declared.Lookup.TheVariants.{Found}
 use Rattle.lookup.specs.Walk.{headed, met_at, met, occupied_met, base_in, has_room}
 use Rattle.lookup.proofs.Multiple.{multiple_behind, multiple_gap}
 use Rattle.lookup.proofs.Walk.{met_block, met_short, Searching, search_start, search_found, search_ended, search_passed}
@@ -28,7 +26,7 @@ searched w = record { fuel = w.fuel; enough = w.enough; same = w.same }
 pub reaches_start : (s : List ℕ) → Reaches s 0
 reaches_start s p f = searched (search_start p s)
 
-pub reaches_on : {s : List ℕ} {at : ℕ} → Reaches s at → (h : Header) → met_at at s ≡ Found (headed at h) → Reaches s (at + 8 * h.size)
+pub reaches_on : {s : List ℕ} {at : ℕ} → Reaches s at → (h : Header) → met_at at s ≡ Some (headed at h) → Reaches s (at + 8 * h.size)
 reaches_on {s} {at} r h e p f =
     searched (search_passed p s at (searching (r p (λ m l. f m (omega arith)))) (headed at h) e (f (headed at h) (omega arith)))
 
@@ -70,7 +68,7 @@ full a n at h e = rw (ne_eqb h.serial 0 e)
 pub seeking_start : (a n : ℕ) (s : List ℕ) → Seeking a n s 0 (length s) n
 seeking_start a n s = record { on = λ l. (refl, searched (search_start (has_room a n) s)); found = λ l. absurd (omega arith) }
 
-module _ {a n : ℕ} {s : List ℕ} {at fit need : ℕ} (positive : 0 < a) (g : Seeking a n s at fit need) (h : Header) (e : met_at at s ≡ Found (headed at h))
+module _ {a n : ℕ} {s : List ℕ} {at fit need : ℕ} (positive : 0 < a) (g : Seeking a n s at fit need) (h : Header) (e : met_at at s ≡ Some (headed at h))
     (short : h.size < 65536) (inside : at < length s) where
   pub seeking_on : {r : Bool} → r ≡ has_room a need (headed at h) → Seeking a n s (at + 8 * h.size) (cond r at fit) (cond r TAKEN need)
   seeking_on {r} q = by_test (ltb fit (length s)) (λ t. had (ltb-true fit (length s) t)) (λ t. go (ltb-false fit (length s) t) r refl)
@@ -88,7 +86,7 @@ module _ {a n : ℕ} {s : List ℕ} {at fit need : ℕ} (positive : 0 < a) (g : 
           rw t (record {
             on = λ x. absurd (omega arith);
             found = λ x.
-                (omega arith, search_found (has_room a n) s at (searching w.1) (headed at h) e room ∙ ap some (sym (met_block_at at s (headed at h) e)));
+                (omega arith, search_found (has_room a n) s at (searching w.1) (headed at h) e room ∙ ap Some (sym (met_block_at at s (headed at h) e)));
           })
       go l false t =
           let w = g.on l in
@@ -113,10 +111,10 @@ module _ (s rest : List ℕ) (inside : length rest ≤ length s) (suffix : rest 
 
   start_same : start_at 0 rest ≡ start_at at s
   unfolding start_at
-  start_same = ap (λ (r : List ℕ). cond (starts_block r) (Starts (read_header r)) Nothing) suffix
+  start_same = ap (λ (r : List ℕ). cond (starts_block r) (Some (read_header r)) None) suffix
 
   module _ {h : Header} (e : header_at 0 rest ≡ h) (one : 1 ≤ h.size) (fits : 8 * h.size ≤ length rest) where
-    pub met_front : met_at at s ≡ Found (headed at h)
+    pub met_front : met_at at s ≡ Some (headed at h)
     met_front = met_block at s h (sym start_same ∙ start_header 0 rest e one (omega arith))
 
     -- one block on

@@ -1,9 +1,9 @@
 -- The settlement of one serial. Along its path: at each open record of the serial the key is struck and its quota pays; what a link leaps over is of other
 -- serials.
 -- So at the path's end all keys of the serial are struck and paid for. Where the serial's slot has one record, that one is all.
+use Rattle.std.specs.Prelude.{Option, Some, None}
 use Rattle.std.proofs.Common.{◌≡◌, ℕ, suc, ◌-◌, ◌/◌, ◌<◌, ◌≤◌, true, false, List, length, get_or, drop, set, sym, refl, ap, ◌∙◌, subst, inl, inr, arith}
 use Rattle.std.proofs.Common.{length-set, get_or-set_other, get_or-set_same, drop-set-lt}
-use mathlib.Core.Option.{Option, none, some}
 use lib.ListN.{get_or-replicate}
 use Rattle.lists.proofs.Bools.{by_eq}
 use Rattle.accounts.specs.Accounts.{QUOTAS, HOLDS}
@@ -17,7 +17,7 @@ use Rattle.survey.proofs.Paths.{before_path, find_on, find_struck}
 -- on the way: what is left to strike and to pay is what the keys from `at` on come to
 pub record Settling (s c : ℕ) (trail keys₀ : List ℕ) (p₀ : Payment) (keys owed seen : List ℕ) (bits at : ℕ) : Type 0 where
   pub path : Findable keys trail bits at s
-  pub paid : pay s c keys₀ (some p₀) ≡ pay s c (drop at keys) (some (record { seen = seen; owed = owed }))
+  pub paid : pay s c keys₀ (Some p₀) ≡ pay s c (drop at keys) (Some (record { seen = seen; owed = owed }))
   pub gone : strike s keys₀ ≡ strike s keys
 
 -- the keys before the path are of other serials
@@ -29,7 +29,7 @@ from_path {s} {at = at} {keys} f c p =
 
 module _ {s c : ℕ} {trail keys₀ : List ℕ} {p₀ : Payment} (live : s ≡ 0 → ⊥) where
   pub settling_start : {bits from : ℕ} → Findable keys₀ trail bits from s → Settling s c trail keys₀ p₀ keys₀ p₀.owed p₀.seen bits from
-  settling_start f = record { path = f; paid = from_path f c (some p₀); gone = refl }
+  settling_start f = record { path = f; paid = from_path f c (Some p₀); gone = refl }
 
   module _ {keys owed seen : List ℕ} {bits at : ℕ} (g : Settling s c trail keys₀ p₀ keys owed seen bits at) where
     -- at the end of the path no key is left, and all are paid for
@@ -40,7 +40,7 @@ module _ {s c : ℕ} {trail keys₀ : List ℕ} {p₀ : Payment} (live : s ≡ 0
     unfolding settled
     settling_end h few =
         let w = (settling_none h).0 in
-        let e = g.paid ∙ pay_end s c keys (some (record { seen = seen; owed = owed })) at (omega (arith, g.path.long)) in
+        let e = g.paid ∙ pay_end s c keys (Some (record { seen = seen; owed = owed })) at (omega (arith, g.path.long)) in
         record { struck_all = sym (g.gone ∙ w); rest = rw (e, g.gone, w); owed_long = few }
 
     module _ (l : at < HOLDS) where
@@ -52,7 +52,7 @@ module _ {s c : ℕ} {trail keys₀ : List ℕ} {p₀ : Payment} (live : s ≡ 0
           let long = g.path.long in
           record {
             path = f;
-            paid = g.paid ∙ pay_skip s c keys (some (record { seen = seen; owed = owed })) (step trail bits at - at) at (step trail bits at) (omega arith)
+            paid = g.paid ∙ pay_skip s c keys (Some (record { seen = seen; owed = owed })) (step trail bits at - at) at (step trail bits at) (omega arith)
                 (omega arith)
                 (λ x a b. before_path f x (omega arith) b);
             gone = g.gone;
@@ -63,14 +63,14 @@ module _ {s c : ℕ} {trail keys₀ : List ℕ} {p₀ : Payment} (live : s ≡ 0
         struck_less = struck_set s live keys at (omega (arith, g.path.long)) hit
 
         -- a quota that cannot pay: it has paid already, or it owes too little
-        fails : cannot_pay c (quota_of (get_or keys at 0)) (record { seen = seen; owed = owed }) ≡ true → pay s c keys₀ (some p₀) ≡ none
+        fails : cannot_pay c (quota_of (get_or keys at 0)) (record { seen = seen; owed = owed }) ≡ true → pay s c keys₀ (Some p₀) ≡ None
         fails t = g.paid ∙ pay_fails s c keys (record { seen = seen; owed = owed }) at (omega (arith, g.path.long)) hit t
 
-        pub settling_paid : {q : ℕ} → q ≡ quota_of (get_or keys at 0) → (get_or seen q 0 ≡ 0 → ⊥) → pay s c keys₀ (some p₀) ≡ none
+        pub settling_paid : {q : ℕ} → q ≡ quota_of (get_or keys at 0) → (get_or seen q 0 ≡ 0 → ⊥) → pay s c keys₀ (Some p₀) ≡ None
         settling_paid e n = fails (paid_cannot c (quota_of (get_or keys at 0)) (record { seen = seen; owed = owed })
             (subst (λ (x : ℕ). get_or seen x 0 ≡ 0 → ⊥) e n))
 
-        pub settling_short : {q : ℕ} → q ≡ quota_of (get_or keys at 0) → get_or owed q 0 < c → pay s c keys₀ (some p₀) ≡ none
+        pub settling_short : {q : ℕ} → q ≡ quota_of (get_or keys at 0) → get_or owed q 0 < c → pay s c keys₀ (Some p₀) ≡ None
         settling_short e b =
             fails (short_cannot c (quota_of (get_or keys at 0)) (record { seen = seen; owed = owed }) (subst (λ (x : ℕ). get_or owed x 0 < c) e b))
 
@@ -91,8 +91,8 @@ module _ {s c : ℕ} {trail keys₀ : List ℕ} {p₀ : Payment} (live : s ≡ 0
                 paid = g.paid
                     ∙ pay_hit s c keys (record { seen = seen; owed = owed }) at (omega arith) hit
                     (can_pay c (quota_of (get_or keys at 0)) (record { seen = seen; owed = owed }) first enough)
-                    ∙ ap (λ (t : List ℕ). pay s c t (some paid_up)) (sym (drop-set-lt (suc at) keys at 0 (omega arith)))
-                    ∙ pay_skip s c (set keys at 0) (some paid_up) (step trail bits at - suc at) (suc at) (step trail bits at) (omega arith) (omega arith)
+                    ∙ ap (λ (t : List ℕ). pay s c t (Some paid_up)) (sym (drop-set-lt (suc at) keys at 0 (omega arith)))
+                    ∙ pay_skip s c (set keys at 0) (Some paid_up) (step trail bits at - suc at) (suc at) (step trail bits at) (omega arith) (omega arith)
                     (λ x a b. before_path f x (omega arith) b);
                 gone = g.gone ∙ sym (strike_set s live keys at hit);
               }
@@ -117,7 +117,7 @@ module _ (s c : ℕ) (keys owed : List ℕ) (live : s ≡ 0 → ⊥) (long : len
 
     pub one_short : (keys' owed' : List ℕ) (q : ℕ) → q ≡ quota_of (get_or keys h 0) → get_or owed q 0 < c → Settled s c keys owed false keys' owed'
     one_short keys' owed' q e b =
-        inr (to_key (some (unpaid owed))
+        inr (to_key (Some (unpaid owed))
         ∙ pay_fails s c keys (unpaid owed) h (omega arith) hit
         (short_cannot c (quota_of (get_or keys h 0)) (unpaid owed) (subst (λ (x : ℕ). get_or owed x 0 < c) e b)))
 
@@ -130,14 +130,14 @@ module _ (s c : ℕ) (keys owed : List ℕ) (live : s ≡ 0 → ⊥) (long : len
         (λ e. ap (for_serial s) (get_or-set_other keys h x 0 0 e) ∙ others x (omega (arith, length-set keys h 0)) e))
 
     paid_one : c ≤ get_or owed (quota_of (get_or keys h 0)) 0 → quota_of (get_or keys h 0) < QUOTAS
-        → pay s c keys (some (unpaid owed)) ≡ some (pays c (quota_of (get_or keys h 0)) (unpaid owed))
+        → pay s c keys (Some (unpaid owed)) ≡ Some (pays c (quota_of (get_or keys h 0)) (unpaid owed))
     paid_one enough few =
-        to_key (some (unpaid owed))
+        to_key (Some (unpaid owed))
         ∙ pay_hit s c keys (unpaid owed) h (omega arith) hit
         (can_pay c (quota_of (get_or keys h 0)) (unpaid owed) (get_or-replicate QUOTAS (quota_of (get_or keys h 0)) 0 0 few) enough)
-        ∙ pay_skip s c keys (some (pays c (quota_of (get_or keys h 0)) (unpaid owed))) (HOLDS - suc h) (suc h) HOLDS (omega arith) (omega arith)
+        ∙ pay_skip s c keys (Some (pays c (quota_of (get_or keys h 0)) (unpaid owed))) (HOLDS - suc h) (suc h) HOLDS (omega arith) (omega arith)
         (λ x a b. others x b (λ e. omega arith))
-        ∙ pay_end s c keys (some (pays c (quota_of (get_or keys h 0)) (unpaid owed))) HOLDS (omega arith)
+        ∙ pay_end s c keys (Some (pays c (quota_of (get_or keys h 0)) (unpaid owed))) HOLDS (omega arith)
 
     pub one_paid : (keys' owed' : List ℕ) (q : ℕ) → q ≡ quota_of (get_or keys h 0) → q < QUOTAS → c ≤ get_or owed q 0 → length owed ≡ QUOTAS
         → keys' ≡ set keys h 0 → owed' ≡ set owed q (get_or owed q 0 - c) → Settled s c keys owed true keys' owed'

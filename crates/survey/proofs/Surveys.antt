@@ -1,4 +1,5 @@
 -- The survey by its parts: one that refuses, another quota's record, and the block with room.
+use Rattle.std.specs.Prelude.{Option, Some, None, Ok, Err, is_some}
 use Rattle.std.proofs.Common.{◌≡◌, ℕ, zero, suc, ◌+◌, ◌%◌, ◌<◌, ◌≤◌, Bool, true, false, cond, ◌&&◌, ◌||◌, eqb, ltb, leb, List, [], ◌∷◌, length, get_or, sym}
 use Rattle.std.proofs.Common.{refl, ap, ◌∙◌, arith, le-ltb, eq-eqb, ne_eqb, leb-true}
 use Rattle.rounding.specs.Rounding.{table}
@@ -13,12 +14,11 @@ use Rattle.lists.proofs.Bools.{and_left, and_right, by_test, by_eq}
 use Rattle.model.specs.Answers.{Values, verdict_values}
 use Rattle.model.specs.Calls.{check}
 use Rattle.model.specs.declared.Refusal.TheVariants.{HeapLength, Inconsistent}
-use Rattle.model.specs.declared.Verdict.TheVariants.{Accepted, Refused}
 use Rattle.lookup.specs.Walk.{has_room, met, fitted, find_fit}
 use Rattle.lookup.proofs.Fits.{fit_zero, fit_first}
 use Rattle.survey.specs.declared.Wanted.{Wanted}
 use Rattle.survey.specs.declared.Surveyed.{Surveyed}
-use Rattle.survey.specs.Survey.{verdict_of, place_of, fit_place, refused_survey, Survey}
+use Rattle.survey.specs.Survey.{verdict_of, place_of, fit_place, refused_survey, Numbered}
 use Rattle.survey.specs.Route.{Seeking}
 use Rattle.survey.proofs.Routes.{seeking_end}
 
@@ -28,28 +28,28 @@ numbered n e = ap (λ (x : Surveyed). x.refusal) e
 
 module _ {s : List ℕ} {k : Accounts} {w : Wanted} (r : Surveyed) where
   pub refused_length : r ≡ refused_survey 1
-      → verdict_values (Refused HeapLength) ≡ (check (table k.edition) s k).values → Survey s k w r
+      → verdict_values (Err HeapLength) ≡ (check (table k.edition) s k).values → Numbered s k w r
   unfolding verdict_of verdict_values
   refused_length e t =
       record {
         number = numbered 1 e ∙ ap (λ (v : Values). v.refusal) t;
         refused = λ z. e ∙ ap refused_survey (sym (numbered 1 e));
         told = ap (λ (n : ℕ). verdict_values (verdict_of n)) (numbered 1 e) ∙ t;
-        known = λ f.
-            (let v : Refused HeapLength ≡ Accepted = ap verdict_of (sym (numbered 1 e)) ∙ f in
+        seen = λ f.
+            (let v : Err HeapLength ≡ Ok tt = ap verdict_of (sym (numbered 1 e)) ∙ f in
             let z : ◌≡◌ {A = ℕ} 0 1 = cc in absurd (omega arith));
       }
 
   pub refused_state : r ≡ refused_survey 2
-      → verdict_values (Refused Inconsistent) ≡ (check (table k.edition) s k).values → Survey s k w r
+      → verdict_values (Err Inconsistent) ≡ (check (table k.edition) s k).values → Numbered s k w r
   unfolding verdict_of verdict_values
   refused_state e t =
       record {
         number = numbered 2 e ∙ ap (λ (v : Values). v.refusal) t;
         refused = λ z. e ∙ ap refused_survey (sym (numbered 2 e));
         told = ap (λ (n : ℕ). verdict_values (verdict_of n)) (numbered 2 e) ∙ t;
-        known = λ f.
-            (let v : Refused Inconsistent ≡ Accepted = ap verdict_of (sym (numbered 2 e)) ∙ f in
+        seen = λ f.
+            (let v : Err Inconsistent ≡ Ok tt = ap verdict_of (sym (numbered 2 e)) ∙ f in
             let z : ◌≡◌ {A = ℕ} 0 1 = cc in absurd (omega arith));
       }
 
@@ -76,14 +76,13 @@ unfolding any
 any_none p [] f = refl
 any_none p (h ∷ hs) f = rw (f 0 (omega arith)) (any_none p hs (λ j l. f (suc j) (omega arith)))
 
+pub known_any : (p : Hold → Bool) (hs : List Hold) (o : Option ℕ) → o ≡ first_from p 0 hs → is_some o ≡ any p hs
+known_any p hs None e = sym (any_none p hs (nothing_none p hs (sym e)))
+known_any p hs (Some n) e = let f = found_first p hs n (sym e) in sym (any_at p hs n f.within f.passes)
+
 pub place_any : (p : Hold → Bool) (hs : List Hold) (n : ℕ) → place_of n ≡ first_from p 0 hs → ltb n HOLDS ≡ any p hs
 unfolding place_of
-place_any p hs n e =
-    by_test (ltb n HOLDS)
-    (λ t.
-    let f = found_first p hs n (sym e ∙ rw t) in
-    t ∙ sym (any_at p hs n f.within f.passes))
-    (λ t. t ∙ sym (any_none p hs (nothing_none p hs (sym e ∙ rw t))))
+place_any p hs n e = by_test (ltb n HOLDS) (λ t. t ∙ known_any p hs (Some n) (sym (rw t) ∙ e)) (λ t. t ∙ known_any p hs None (sym (rw t) ∙ e))
 
 -- the block with room, none where the alignment is 0
 pub fit_known : (unit need : ℕ) (s : List ℕ) {a n at fit left fit' : ℕ} → ((unit ≡ 0 → ⊥) → a ≡ unit) → ((unit ≡ 0 → ⊥) → n ≡ need) → Seeking a n s at fit left

@@ -1,8 +1,8 @@
 -- One block of the walk: each of the definition's tests, one of a free block's size and one of a live block's object decides it where it fails, and where
 -- all pass, the settlement of a live block leaves the arrays as the walk wants them.
+use Rattle.std.specs.Prelude.{Option, Some, None}
 use Rattle.std.proofs.Common.{◌≡◌, ℕ, ◌-◌, ◌<◌, ◌≤◌, Bool, true, false, cond, not, ◌&&◌, ◌||◌, eqb, leb, ◌⊎◌, List, sym, refl, ap, ◌∙◌, subst, inl, inr, arith}
 use Rattle.std.proofs.Common.{eq-eqb, ne_eqb, le-leb, leb-false, leb-true}
-use mathlib.Core.Option.{Option, none, some}
 use borrow.Author.Tests.{lt-leb}
 use Rattle.model.specs.Consistent.{fits_unit}
 use Rattle.lists.proofs.Bools.{and_no, and_left, and_right, by_eq}
@@ -43,7 +43,7 @@ module _ (unit : ℕ → ℕ) (kind last s n end before : ℕ) {words heads link
   -- a live one
   module _ (live : s ≡ 0 → ⊥) (named : s ≡ QUARANTINED → ⊥) where
     tests : visit last s n (behind before keys owed)
-        ≡ cond (leb 16 n && (leb s last && not (eqb (struck s keys) 0))) (settled (strike s keys) (pay s n keys (some (unpaid owed)))) none
+        ≡ cond (leb 16 n && (leb s last && not (eqb (struck s keys) 0))) (settled (strike s keys) (pay s n keys (Some (unpaid owed)))) None
     unfolding visit visit_live
     tests = rw (ne_eqb s 0 live, ne_eqb s QUARANTINED named)
 
@@ -56,7 +56,7 @@ module _ (unit : ℕ → ℕ) (kind last s n end before : ℕ) {words heads link
     unfolding fits_block
     visit_unfit e l = go (leb 16 n) refl
       where
-        go : (t : Bool) → leb 16 n ≡ t → (visit last s n (behind before keys owed) ≡ none)
+        go : (t : Bool) → leb 16 n ≡ t → (visit last s n (behind before keys owed) ≡ None)
             ⊎ ((eqb s 0 || cond (eqb s QUARANTINED) (eqb kind 1) (fits_unit unit (end - (n - 8)) (n - 8))) ≡ false)
         go true t = inr (rw (ne_eqb s 0 live, ne_eqb s QUARANTINED named) (sym (rw t refl) ∙ e))
         go false t = inl (tests ∙ rw t)
@@ -76,7 +76,7 @@ module _ (unit : ℕ → ℕ) (kind last s n end before : ℕ) {words heads link
     visit_settled fits given false heads' links' owed' left' (inr w, ready) = λ l.
         inl (tests ∙ rw w (either (leb 16 n && (leb s last && not (eqb (struck s keys) 0)))))
       where
-        either : (t : Bool) → ◌≡◌ {A = Option State} (cond t none none) none
+        either : (t : Bool) → ◌≡◌ {A = Option State} (cond t None None) None
         either true = refl
         either false = refl
 

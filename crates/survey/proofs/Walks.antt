@@ -2,11 +2,10 @@
 -- objects
 -- fit if those in the rest do. A rest that starts no block, among them one whose size is 0, or a back size that is wrong, is no cut; a block that fails or
 -- does not fit fails the whole.
+use Rattle.std.specs.Prelude.{Option, Some, None}
 use Rattle.std.proofs.Common.{◌≡◌, ℕ, ◌+◌, ◌-◌, ◌*◌, ◌%◌, ◌<◌, ◌≤◌, Bool, true, false, ◌&&◌, ◌⊎◌, List, [], ◌∷◌, length, drop, sym, refl, ap, ◌∙◌, ⊎_elim}
 use Rattle.std.proofs.Common.{arith, length-drop, drop-drop}
-use mathlib.Core.Option.{Option, none, some}
 use Rattle.layout.specs.declared.Header.{Header}
-use Rattle.layout.specs.declared.Start.TheVariants.{Block as Starts, Nothing}
 use Rattle.layout.specs.Blocks.{Block, size, read_block, header_at, start_at, in_front, cut}
 use Rattle.layout.proofs.Starts.{start_found, start_header, start_no}
 use Rattle.layout.proofs.Fuel.{cut_nothing, cut_at, cut_other, block_at, size_at}
@@ -19,23 +18,23 @@ use Rattle.survey.specs.Clauses.{Ready, Visited, Stage, judged, WalkedTo}
 
 -- the block in front, and a walk that has failed
 parsed_front : (last : ℕ) (b : Block) (t : State) (rest : Option (List Block))
-    → audit_parsed last (in_front b rest) (some t) ≡ audit_parsed last rest (visit last b.serial (size b) t)
+    → audit_parsed last (in_front b rest) (Some t) ≡ audit_parsed last rest (visit last b.serial (size b) t)
 unfolding audit_parsed audit in_front
-parsed_front last b t none = refl
-parsed_front last b t (some bs) = refl
+parsed_front last b t None = refl
+parsed_front last b t (Some bs) = refl
 
-parsed_none : (last : ℕ) (rest : Option (List Block)) → audit_parsed last rest none ≡ false
+parsed_none : (last : ℕ) (rest : Option (List Block)) → audit_parsed last rest None ≡ false
 unfolding audit_parsed audit
-parsed_none last none = refl
-parsed_none last (some []) = refl
-parsed_none last (some (b ∷ bs)) = refl
+parsed_none last None = refl
+parsed_none last (Some []) = refl
+parsed_none last (Some (b ∷ bs)) = refl
 
 -- on the way, from a rest, a back size and a block before on; `whole` is the audit from there, `fits` whether the objects from there fit
 pub record Walking (unit : ℕ → ℕ) (kind last : ℕ) (s words : List ℕ) (whole fits : Bool) (heads links owed : List ℕ) (left before back : ℕ) (rest : List ℕ) :
     Type 0 where
   pub inside : length rest ≤ length s
   pub ready : Ready words heads links owed left
-  pub same : whole ≡ audit_parsed last (cut back rest) (some (behind before (keys_left words heads links) owed))
+  pub same : whole ≡ audit_parsed last (cut back rest) (Some (behind before (keys_left words heads links) owed))
   pub even : (length s - length rest) % 8 ≡ 0
   pub fit : fits ≡ fitting unit kind (length s - length rest) (cut back rest)
 
@@ -49,11 +48,11 @@ module _ {unit : ℕ → ℕ} {kind last : ℕ} {s words : List ℕ} {whole fits
   unfolding judged
   walking_judged = λ i. g.same i && g.fit i
 
-  stops : cut back rest ≡ none → whole ≡ false
+  stops : cut back rest ≡ None → whole ≡ false
   unfolding audit_parsed
-  stops e = g.same ∙ ap (λ (x : Option (List Block)). audit_parsed last x (some (behind before keys owed))) e
+  stops e = g.same ∙ ap (λ (x : Option (List Block)). audit_parsed last x (Some (behind before keys owed))) e
 
-  walking_nothing : 0 < length rest → start_at 0 rest ≡ Nothing → whole ≡ false
+  walking_nothing : 0 < length rest → start_at 0 rest ≡ None → whole ≡ false
   walking_nothing h e = stops (cut_nothing back 0 rest h e)
 
   -- by the header that is read, and the visit
@@ -62,7 +61,7 @@ module _ {unit : ℕ → ℕ} {kind last : ℕ} {s words : List ℕ} {whole fits
     walking_long l = walking_nothing (omega arith) (start_no 0 rest e (λ p. omega arith))
 
     module _ (long : 8 * h.size ≤ length rest) where
-      starts : 1 ≤ h.size → start_at 0 rest ≡ Starts h
+      starts : 1 ≤ h.size → start_at 0 rest ≡ Some h
       starts p = start_header 0 rest e p (omega arith)
 
       -- a size of 0 starts no block
@@ -80,8 +79,8 @@ module _ {unit : ℕ → ℕ} {kind last : ℕ} {s words : List ℕ} {whole fits
       step p q =
           let f = start_found 0 rest h (starts p) in
           let z : 0 + 8 * h.size ≡ 8 * h.size = omega arith in
-          g.same ∙ ap (λ (x : Option (List Block)). audit_parsed last x (some (behind before keys owed))) (cut_at back 0 rest h (starts p) q)
-          ∙ ap (λ (x : ℕ). audit_parsed last (in_front (read_block rest) (cut h.size (drop x rest))) (some (behind before keys owed))) z
+          g.same ∙ ap (λ (x : Option (List Block)). audit_parsed last x (Some (behind before keys owed))) (cut_at back 0 rest h (starts p) q)
+          ∙ ap (λ (x : ℕ). audit_parsed last (in_front (read_block rest) (cut h.size (drop x rest))) (Some (behind before keys owed))) z
           ∙ parsed_front last (read_block rest) (behind before keys owed) (cut h.size (drop (8 * h.size) rest))
           ∙ ap (λ (x : ℕ). audit_parsed last (cut h.size (drop (8 * h.size) rest)) (visit last (read_block rest).serial x (behind before keys owed)))
           (size_at 0 rest h f)
@@ -117,7 +116,7 @@ module _ {unit : ℕ → ℕ} {kind last : ℕ} {s words : List ℕ} {whole fits
 
         -- a block that fails, or does not fit
         pub walking_fails : h.back ≡ back
-            → (8 ≤ 8 * h.size → (visit last h.serial (8 * h.size) (behind before keys owed) ≡ none)
+            → (8 ≤ 8 * h.size → (visit last h.serial (8 * h.size) (behind before keys owed) ≡ None)
             ⊎ (fits_block unit kind h.serial (8 * h.size) end ≡ false))
             → (whole && fits) ≡ false
         walking_fails q w =
@@ -153,7 +152,7 @@ one_fails a f e = rw e
 pub walking_start : (unit : ℕ → ℕ) (kind last : ℕ) (s : List ℕ) {words heads links owed : List ℕ} {left at : ℕ} → Stage s words heads links owed left at
     → (units before : ℕ)
     → {rest : List ℕ} → rest ≡ drop at s
-    → Walking unit kind last s words (audit_parsed last (cut units (drop at s)) (some (behind before (keys_left words heads links) owed)))
+    → Walking unit kind last s words (audit_parsed last (cut units (drop at s)) (Some (behind before (keys_left words heads links) owed)))
     (fitting unit kind at (cut units (drop at s)))
     heads links owed left before units rest
 walking_start unit kind last s {words} {heads} {links} {owed} {at = at} g units before {rest} e =
@@ -163,7 +162,7 @@ walking_start unit kind last s {words} {heads} {links} {owed} {at = at} g units 
     record {
       inside = omega arith;
       ready = g.ready;
-      same = ap (λ (t : List ℕ). audit_parsed last (cut units t) (some (behind before (keys_left words heads links) owed))) (sym e);
+      same = ap (λ (t : List ℕ). audit_parsed last (cut units t) (Some (behind before (keys_left words heads links) owed))) (sym e);
       even = ap (λ (x : ℕ). x % 8) z ∙ g.even;
       fit = λ j. fitting unit kind (sym z j) (cut units (sym e j));
     }
@@ -186,7 +185,7 @@ suffix_on s {rest} i e {n} h {rest'} p =
 -- where the walk stops, from there on as much is judged
 pub walked_far : {unit : ℕ → ℕ} {kind last edge : ℕ} {s words : List ℕ} {whole fits : Bool} {heads links owed : List ℕ} {left before back : ℕ} {rest : List ℕ}
     → Walking unit kind last s words whole fits heads links owed left before back rest → rest ≡ drop (length s - length rest) s → length rest < edge
-    → WalkedTo unit kind last edge s words (whole && fits) true (length s - length rest) back before heads links owed left
+    → WalkedTo unit kind last edge s words (whole && fits) (length s - length rest) back before heads links owed left
 walked_far {unit} {kind} {last} {edge} {s} {words} {heads = heads} {links} {owed} {before = before} {back} {rest} g e l =
     let i = g.inside in (
       record { inside = omega arith; even = g.even; ready = g.ready },

@@ -1,18 +1,25 @@
 -- What the crate's own functions ask and promise.
-use Rattle.std.specs.Prelude.{◌≡◌, ℕ, ◌+◌, ◌%◌, ◌<◌, ◌≤◌, Bool, true, false, cond, ◌&&◌, ◌⊎◌, List, length, drop, slice_index, slice_set}
-use Rattle.std.proofs.Math.Option.{Option, none, some}
+use Rattle.std.specs.Prelude.{◌≡◌, ℕ, ◌+◌, ◌%◌, ◌<◌, ◌≤◌, Bool, true, false, cond, ◌&&◌, ◌⊎◌, List, length, drop}
+use Rattle.std.specs.Prelude.{slice_index, slice_set, Option, Some, None, Err}
+use Rattle.rounding.specs.Rounding.{table}
 use Rattle.accounts.specs.declared.Hold.{Hold}
 use Rattle.accounts.specs.Accounts.{QUOTAS, HOLDS, is_for, lowest_unused}
 use Rattle.layout.specs.Blocks.{Block, cut}
 use Rattle.framing.specs.Frames.{padded, stream_of}
 use Rattle.lists.specs.Lists.{all}
+use Rattle.model.specs.Answers.{verdict_values}
+use Rattle.model.specs.Calls.{check}
+use Rattle.model.specs.Consistent.{allowed, in_range}
+use Rattle.model.specs.declared.Refusal.TheVariants.{Inconsistent}
 use Rattle.audit.specs.Keys.{well_formed, keys_of}
 use Rattle.audit.specs.Audit.{behind, visit, audit_parsed}
-use Rattle.audit.specs.Clauses.{Settled}
+use Rattle.audit.specs.Clauses.{Settled, Owing}
 use Rattle.audit.specs.Fitting.{fits_block, fitting}
-use Rattle.words.specs.Words.{serial_in, rest_in, holds_of, accounts_of}
+use Rattle.words.specs.Words.{serial_in, rest_in, last_of, kind_of, edition_of, quotas_of, holds_of, accounts_of}
 use Rattle.survey.specs.Index.{SLOTS, LINKS, FORKED, fork, plain, Leads, Ascends, keys_left, waiting, Linked, Built}
 use Rattle.survey.specs.Survey.{place_of, shares}
+use Rattle.survey.specs.declared.Numbers.{Numbers}
+use Rattle.survey.specs.declared.indexing.Tally.{Tally}
 
 -- the records from a place on are all zero
 abbrev pub Blank : List ℕ → ℕ → Type 0
@@ -35,16 +42,12 @@ pub record Hung (bits root i : ℕ) (links links' : List ℕ) : Type 0 where
 unfoldable pub sought : Bool → ℕ → ℕ → Hold → Bool
 sought own serial q h = cond own (is_for serial q h) (shares serial q h)
 
--- `index` enters every used record, counts them, and finds the lowest unused one; or says that a record is not well-formed
+-- `index` enters every used record, counts them, and finds the lowest unused one
 pub record Index (words heads links : List ℕ) (low used : ℕ) : Type 0 where
   pub well : all well_formed (holds_of words) ≡ true
   pub built : Built words HOLDS heads links
   pub counted : used ≡ waiting HOLDS (keys_of (holds_of words))
   pub lowest : place_of low ≡ lowest_unused (accounts_of words)
-
-abbrev pub Told : List ℕ → Bool → List ℕ → List ℕ → ℕ → ℕ → Type 0
-Told words true heads links low used = Index words heads links low used
-Told words false heads links low used = all well_formed (holds_of words) ≡ false
 
 -- the arrays as the walk wants them
 pub record Ready (words heads links owed : List ℕ) (left : ℕ) : Type 0 where
@@ -68,14 +71,14 @@ abbrev pub Visited : (ℕ → ℕ) → ℕ → ℕ → ℕ → ℕ → ℕ → �
 Visited unit kind last serial size end before words heads links owed true heads' links' owed' left' =
     (8 ≤ size)
     × Ready words heads' links' owed' left'
-    × (visit last serial size (behind before (keys_left words heads links) owed) ≡ some (behind serial (keys_left words heads' links') owed'))
+    × (visit last serial size (behind before (keys_left words heads links) owed) ≡ Some (behind serial (keys_left words heads' links') owed'))
     × (fits_block unit kind serial size end ≡ true)
 Visited unit kind last serial size end before words heads links owed false heads' links' owed' left' =
-    8 ≤ size → (visit last serial size (behind before (keys_left words heads links) owed) ≡ none) ⊎ (fits_block unit kind serial size end ≡ false)
+    8 ≤ size → (visit last serial size (behind before (keys_left words heads links) owed) ≡ None) ⊎ (fits_block unit kind serial size end ≡ false)
 
 -- the blocks from a place on, behind a block with a serial: whether the audit passes them, with these keys and debts, and their objects fit
 unfoldable pub judged : (ℕ → ℕ) → ℕ → ℕ → ℕ → Option (List Block) → ℕ → List ℕ → List ℕ → Bool
-judged unit kind last at blocks before keys owed = audit_parsed last blocks (some (behind before keys owed)) && fitting unit kind at blocks
+judged unit kind last at blocks before keys owed = audit_parsed last blocks (Some (behind before keys owed)) && fitting unit kind at blocks
 
 -- `walk` from a place on asks for arrays that are ready
 pub record Stage (s words heads links owed : List ℕ) (left at : ℕ) : Type 0 where
@@ -83,12 +86,25 @@ pub record Stage (s words heads links owed : List ℕ) (left at : ℕ) : Type 0 
   pub even : at % 8 ≡ 0
   pub ready : Ready words heads links owed left
 
--- and comes to a place from which on as much is judged; or says that the blocks fail
-abbrev pub WalkedTo : (ℕ → ℕ) → ℕ → ℕ → ℕ → List ℕ → List ℕ → Bool → Bool → ℕ → ℕ → ℕ → List ℕ → List ℕ → List ℕ → ℕ → Type 0
-WalkedTo unit kind last edge s words whole true at back before heads links owed left =
+-- and comes to a place from which on as much is judged
+abbrev pub WalkedTo : (ℕ → ℕ) → ℕ → ℕ → ℕ → List ℕ → List ℕ → Bool → ℕ → ℕ → ℕ → List ℕ → List ℕ → List ℕ → ℕ → Type 0
+WalkedTo unit kind last edge s words whole at back before heads links owed left =
     Stage s words heads links owed left at × (length s < at + edge)
     × (whole ≡ judged unit kind last at (cut back (drop at s)) before (keys_left words heads links) owed)
-WalkedTo unit kind last edge s words whole false at back before heads links owed left = whole ≡ false
+
+-- `begin` knows of the accounts all that the verdict asks of them alone; or they are refused with whatever heap
+pub record Begins (words heads links owed : List ℕ) (n : Numbers) (t : Tally) : Type 0 where
+  pub ranged : in_range (accounts_of words) ≡ true
+  pub last : n.last ≡ last_of words
+  pub kind : n.kind ≡ kind_of words
+  pub edition : n.edition ≡ edition_of words
+  pub index : Index words heads links t.low t.used
+  pub debts : Owing (quotas_of words) true owed
+
+abbrev pub Refuses : List ℕ → Type 0
+Refuses words =
+    (s : List ℕ) → allowed (length s) ≡ true
+    → verdict_values (Err Inconsistent) ≡ (check (table (edition_of words)) s (accounts_of words)).values
 
 -- the heap that has n bytes of an image's stream from a place on
 abbrev pub heap_in : ℕ → ℕ → List ℕ → List ℕ

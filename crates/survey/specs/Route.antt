@@ -1,10 +1,8 @@
 -- What the walk over the blocks finds on its way: the block before the place where it stops, and the first free block with room.
-use Rattle.std.specs.Prelude.{◌≡◌, ℕ, ◌+◌, ◌-◌, ◌*◌, ◌<◌, ◌≤◌, Bool, false, cond, ◌⊎◌, List, length, nat_lt}
-use Rattle.std.proofs.Math.Option.{some}
+use Rattle.std.specs.Prelude.{◌≡◌, ℕ, ◌+◌, ◌-◌, ◌*◌, ◌<◌, ◌≤◌, Bool, false, cond, ◌⊎◌, List, length, nat_lt, Some}
 use Rattle.layout.specs.declared.Header.{Header}
 use Rattle.lists.specs.Lists.{first}
 use Rattle.lookup.specs.declared.Met.{Met}
-use Rattle.lookup.specs.declared.Lookup.TheVariants.{Found}
 use Rattle.lookup.specs.Walk.{headed, met_at, met_from, met, has_room}
 use Rattle.survey.specs.Survey.{block_at}
 
@@ -31,12 +29,12 @@ pub record Last (s : List ℕ) (edge at back before : ℕ) : Type 0 where
   pub header : Header
   pub size : header.size ≡ back
   pub serial : header.serial ≡ before
-  pub there : met_at start s ≡ Found (headed start header)
+  pub there : met_at start s ≡ Some (headed start header)
 
 -- the search for room for n bytes at a multiple of a: it goes on at a place, or has found a block, and then `need` is more than any block has
 pub record Seeking (a n : ℕ) (s : List ℕ) (at fit need : ℕ) : Type 0 where
   pub on : length s ≤ fit → (need ≡ n) × Searched (has_room a n) s at
-  pub found : fit < length s → (TAKEN ≤ need) × (first (has_room a n) (met s) ≡ some (block_at fit s))
+  pub found : fit < length s → (TAKEN ≤ need) × (first (has_room a n) (met s) ≡ Some (block_at fit s))
 
 -- from one place to another
 pub record Passed (s : List ℕ) (edge a from fit need at back before fit' need' : ℕ) : Type 0 where

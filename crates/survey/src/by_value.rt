@@ -6,10 +6,10 @@ ghost use Rattle.model.specs.Calls.{check as check_of};
 ghost use Rattle.lookup.specs.Walk.{multiple_from, fitted};
 ghost use Rattle.survey.specs.Survey.{Survey, block_of, place_of, fit_place};
 
-use crate::{Surveyed, Wanted, block_at, survey, verdict};
-use accounts::{Accounts, HOLDS, Place};
-use lookup::{Fit, Lookup};
-use model::{Handle, Verdict};
+use crate::{Known, Wanted, block_at, survey};
+use accounts::{Accounts, HOLDS};
+use lookup::Met;
+use model::{Handle, Refusal};
 use words::words_of;
 
 // A survey that is asked for an object and a quota's record for it.
@@ -41,7 +41,7 @@ pub fn unasked() -> Wanted
 }
 
 // The survey of a heap with accounts by value.
-pub fn survey_of(heap: &[u8], accounts: Accounts, wanted: Wanted) -> Surveyed
+pub fn survey_of(heap: &[u8], accounts: Accounts, wanted: Wanted) -> Result<Known, Refusal>
     ensures { Survey heap.now accounts wanted result }
 {
     let words = words_of(accounts);
@@ -49,31 +49,33 @@ pub fn survey_of(heap: &[u8], accounts: Accounts, wanted: Wanted) -> Surveyed
 }
 
 // Rule 8.35, the verdict on a heap and its accounting state: refused for its length, refused as inconsistent, or accepted.
-pub fn check(heap: &[u8], accounts: Accounts) -> Verdict
+pub fn check(heap: &[u8], accounts: Accounts) -> Result<(), Refusal>
     ensures { verdict_values result ≡ (check_of (table accounts.edition) heap.now accounts).values }
 {
-    let known = survey_of(heap, accounts, unasked());
-    verdict(known.refusal)
+    match survey_of(heap, accounts, unasked()) {
+        Ok(_) => Ok(()),
+        Err(refusal) => Err(refusal),
+    }
 }
 
 // The block at a place, where the handle was found to name its object.
-pub fn found(heap: &[u8], found: bool, at: usize) -> Lookup
+pub(crate) fn found(heap: &[u8], found: bool, at: usize) -> Option<Met>
     ensures { result ≡ block_of found at heap.now }
 {
     if !found {
-        return Lookup::Missing;
+        return None;
     }
-    Lookup::Found(block_at(heap, at))
+    Some(block_at(heap, at))
 }
 
 // The place of a record by its number.
-pub fn place(number: usize) -> Place
+pub(crate) fn place(number: usize) -> Option<usize>
     ensures { result ≡ place_of number }
 {
     if HOLDS <= number {
-        return Place::Nothing;
+        return None;
     }
-    Place::At(number)
+    Some(number)
 }
 
 // The lowest multiple of a unit behind the header at a place.
@@ -86,15 +88,15 @@ fn base_in(at: usize, unit: usize) -> usize
 }
 
 // The block with room by its place, and the base of an object in it. The only multiple of 0 is 0.
-pub fn room(heap: &[u8], fit: usize, unit: u32) -> Fit
+pub(crate) fn room(heap: &[u8], fit: usize, unit: u32) -> Option<(Met, usize)>
     ensures { result ≡ fitted unit (fit_place fit heap.now) }
 {
     if heap.len() <= fit {
-        return Fit::Nowhere;
+        return None;
     }
     let block = block_at(heap, fit);
     if unit == 0 {
-        return Fit::At(block, 0);
+        return Some((block, 0));
     }
-    Fit::At(block, base_in(fit, unit as usize))
+    Some((block, base_in(fit, unit as usize)))
 }

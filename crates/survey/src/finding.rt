@@ -26,7 +26,9 @@ fn is_sought(word: u32, holder: u32, serial: u32, quota: u32, own: bool) -> bool
     holder != quota
 }
 
-// The place of the first record that is the quota's own for a serial, or another quota's; HOLDS or more where there is none.
+// The place of the first record that is the quota's own for a serial, or another quota's; HOLDS or more where there
+// is none. The loop follows links; no index is
+// counted.
 pub(crate) fn on_path(
     words: &[u32; WORDS],
     links: &[u16; LINKS],

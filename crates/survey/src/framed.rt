@@ -10,13 +10,12 @@ ghost use Rattle.words.specs.Words.{edition_of, accounts_of};
 ghost use Rattle.survey.specs.Index.{keys_left};
 ghost use Rattle.survey.specs.Clauses.{Ready, judged, heap_in};
 
-use crate::indexing::{index, used_top};
-use crate::paying::{is_settled, owing};
+use crate::paying::is_settled;
 use crate::walking::visit;
-use crate::{END, HEAP_LENGTH, INCONSISTENT, LINKS, SLOTS, numbers_in, verdict};
+use crate::{END, HEAP_LENGTH, INCONSISTENT, LINKS, Numbers, SLOTS, begin, verdict};
 use accounts::{HOLDS, QUOTAS};
 use layout::Header;
-use model::Verdict;
+use model::Refusal;
 use words::WORDS;
 
 // The header of the eight bytes at a place of an image's stream.
@@ -29,7 +28,8 @@ fn header_in(image: &[u8], at: u32) -> Header
 }
 
 // The walk over the blocks of the heap that has so many bytes of the stream from a place on: whether the heap is cut into blocks, each as it must be and with
-// an object that fits its unit, and then no record is open and no quota owes anything.
+// an object that fits its unit, and then no record is open and no quota owes anything. It reads headers out of the stream and seeks no room, so it
+// shares `visit` with `walk`, and not the loop. Each header says where the next one is; no index is counted.
 fn walk_frames(
     image: &[u8],
     from: u16,
@@ -39,12 +39,10 @@ fn walk_frames(
     heads: &mut [u16; SLOTS],
     owed: &mut [usize; QUOTAS],
     left: &mut usize,
-    kind: u8,
-    edition: u8,
-    last: u32,
+    numbers: Numbers,
 ) -> bool
-    requires { (last ≤ greatest_serial) × (allowed size ≡ true) × Ready words.now heads.old links.old owed.old left.old }
-    ensures { result ≡ judged (table edition) kind last 0 (cut 0 (drop 0 (heap_in from size image.now))) 1
+    requires { (numbers.last ≤ greatest_serial) × (allowed size ≡ true) × Ready words.now heads.old links.old owed.old left.old }
+    ensures { result ≡ judged (table numbers.edition) numbers.kind numbers.last 0 (cut 0 (drop 0 (heap_in from size image.now))) 1
         (keys_left words.now heads.old links.old) owed.old }
 {
     let start = from as usize;
@@ -63,7 +61,7 @@ fn walk_frames(
         let serial = header.serial;
         let end = at + bytes;
         if !visit(
-            words, links, heads, owed, left, kind, edition, last, before, serial, bytes, end, 0,
+            words, links, heads, owed, left, numbers, before, serial, bytes, end, 0,
         ) {
             return false;
         }
@@ -77,30 +75,26 @@ fn walk_frames(
 
 // Rule 8.35, the verdict on the heap that has so many bytes of an image's stream from a place on, and its accounting state: as `check` gives it for a heap in
 // one piece.
-pub fn check_in_frames(image: &[u8], from: u16, size: usize, words: &[u32; WORDS]) -> Verdict
+pub fn check_in_frames(
+    image: &[u8],
+    from: u16,
+    size: usize,
+    words: &[u32; WORDS],
+) -> Result<(), Refusal>
     ensures { verdict_values result ≡ (check_of (table (edition_of words.now)) (padded size (drop from (stream_of image.now)))
         (accounts_of words.now)).values }
 {
     if !model::is_allowed(size) {
         return verdict(HEAP_LENGTH);
     }
-    let numbers = numbers_in(words);
-    if !numbers.fine {
-        return verdict(INCONSISTENT);
-    }
     let end = END as u16;
     let mut links = [end; LINKS];
     let mut heads = [end; SLOTS];
     let mut owed = [0usize; QUOTAS];
-    let top = used_top(words);
-    let tally = index(words, &mut links, &mut heads, top);
-    if !tally.fine {
+    let Some(begun) = begin(words, &mut links, &mut heads, &mut owed) else {
         return verdict(INCONSISTENT);
-    }
-    if !owing(words, &mut owed) {
-        return verdict(INCONSISTENT);
-    }
-    let mut left = tally.used;
+    };
+    let mut left = begun.tally.used;
     if !walk_frames(
         image,
         from,
@@ -110,9 +104,7 @@ pub fn check_in_frames(image: &[u8], from: u16, size: usize, words: &[u32; WORDS
         &mut heads,
         &mut owed,
         &mut left,
-        numbers.kind,
-        numbers.edition,
-        numbers.last,
+        begun.numbers,
     ) {
         return verdict(INCONSISTENT);
     }

@@ -9,7 +9,7 @@ use crate::finding::on_path;
 use crate::indexing::{index, used_top};
 use crate::{END, LINKS, SLOTS};
 use accounts::{HOLDS, QUOTAS};
-use layout::{QUARANTINED, Start};
+use layout::QUARANTINED;
 use words::WORDS;
 
 // Whether a block with this serial is live.
@@ -45,7 +45,8 @@ fn count(flags: [bool; HOLDS])
     ensures { length flags ≡ HOLDS }
 {}
 
-// The walk over the blocks that puts a flag for each live one.
+// The walk over the blocks that puts a flag for each live one. Each header says where the next block is, and a block that is not live has no flag, so no index
+// is counted.
 fn put_flags(
     heap: &[u8],
     words: &[u32; WORDS],
@@ -61,22 +62,22 @@ fn put_flags(
     let mut i: usize = 0;
     let mut at: usize = 0;
     while i < HOLDS {
-        let Start::Block(header) = layout::start_at(heap, at) else {
+        let Some(header) = layout::start_at(heap, at) else {
             return;
         };
         let serial = header.serial;
+        at += 8 * header.size;
         if is_live(serial) {
             kept[i] = is_held(words, links, heads, fine, serial);
             i += 1;
-            at += 8 * header.size;
-        } else {
-            at += 8 * header.size;
         }
     }
 }
 
 // For each live block in order whether a used record has its serial, as many as there are flags; the flags behind them stay as they are. Where a record is not
 // well-formed, every block counts as held.
+// It stands by itself, so that its index is on the stack only while it runs, and not beside the survey's.
+#[inline(never)]
 pub fn held_blocks(heap: &[u8], words: &[u32; WORDS], kept: &mut [bool; HOLDS])
     ensures { kept.new ≡ put_flags 0 (held_flags (holds_of words.now) heap.now) kept.old }
 {
@@ -85,5 +86,5 @@ pub fn held_blocks(heap: &[u8], words: &[u32; WORDS], kept: &mut [bool; HOLDS])
     let mut heads = [end; SLOTS];
     let top = used_top(words);
     let tally = index(words, &mut links, &mut heads, top);
-    put_flags(heap, words, &links, &heads, tally.fine, kept);
+    put_flags(heap, words, &links, &heads, tally.is_some(), kept);
 }

@@ -1,19 +1,20 @@
 // The pass over the records that builds the index.
-ghost use Rattle.std.specs.Prelude.{◌≡◌, ◌+◌, ◌/◌, ◌<◌, ◌≤◌, true, false, ◌&&◌, ltb, length, if◌then◌else◌, ◌==◌, ◌≢◌, nat_le, nat_lt};
+ghost use Rattle.std.specs.Prelude.{◌≡◌, ◌+◌, ◌<◌, ◌≤◌, true, false, ◌&&◌, ltb, if◌then◌else◌, ◌==◌, ◌≢◌, nat_le, nat_lt, MatchOption};
+ghost use Rattle.lists.specs.Lists.{all};
+ghost use Rattle.audit.specs.Keys.{well_formed};
 ghost use Rattle.accounts.specs.Accounts.{QUOTAS, HOLDS};
-ghost use Rattle.words.specs.Words.{serial_in, quota_in, count_in};
+ghost use Rattle.words.specs.Words.{serial_in, quota_in, count_in, holds_of};
 ghost use Rattle.survey.specs.Index.{bits_of, Growing, Built};
-ghost use Rattle.survey.specs.Clauses.{Zeros, Blank, Hung, Told};
+ghost use Rattle.survey.specs.Clauses.{Zeros, Blank, Hung, Index};
 
 use crate::reading::{count_in, fork, head_in, number_in, quota_in, serial_in, slot_of};
 use crate::{END, FORKED, LINKS, SLOTS};
 use accounts::{HOLDS, QUOTAS};
 use words::{FIRST, WORDS};
 
-// What the pass gives: whether the records are well-formed; the place of the lowest that is unused, HOLDS where none is; and how many are used.
+// What the pass gives: the place of the lowest record that is unused, HOLDS where none is, and how many are used.
 #[derive(Clone, Copy)]
 pub(crate) struct Tally {
-    pub fine: bool,
     pub low: usize,
     pub used: usize,
 }
@@ -27,30 +28,13 @@ fn are_blank(words: &[u32; WORDS], from: usize, count: usize) -> bool
         return false;
     }
     let mut bits: u32 = 0;
-    let mut i: usize = 0;
-    while i < 2 * count {
-        bits = bits | words[FIRST + 2 * from + i];
-        i += 1;
+    for i in 0..2 * count {
+        bits |= words[FIRST + 2 * from + i];
     }
     bits == 0
 }
 
-// A place from which on all records are blank, by steps down from one that is such. The lowest records are not looked at.
-fn used_end(words: &[u32; WORDS], from: usize, step: usize) -> usize
-    requires { (from ≤ HOLDS) × (0 < step) × Blank words.now from }
-    ensures { (result ≤ HOLDS) × Blank words.now result }
-{
-    let mut top = from;
-    while step < top {
-        if !are_blank(words, top - step, step) {
-            return top;
-        }
-        top -= step;
-    }
-    top
-}
-
-// The same by one step at most.
+// A place from which on all records are blank, by one step down at most from one that is such.
 fn one_down(words: &[u32; WORDS], top: usize, step: usize) -> usize
     requires { (top ≤ HOLDS) × (0 < step) × Blank words.now top }
     ensures { (result ≤ HOLDS) × Blank words.now result }
@@ -87,28 +71,7 @@ fn is_possible(words: &[u32; WORDS], at: usize) -> bool
     1 <= count_in(words, at)
 }
 
-// The lower of two places.
-fn lower(a: usize, b: usize) -> usize
-    ensures { result ≡ (if ltb b a then b else a) }
-{
-    if b < a {
-        return b;
-    }
-    a
-}
-
-// A tally of records that are not all well-formed.
-fn ill_formed() -> Tally
-    ensures { result.fine ≡ false }
-{
-    Tally {
-        fine: false,
-        low: HOLDS,
-        used: 0,
-    }
-}
-
-// A record is hung into the empty link at the end of its serial's path.
+// A record is hung into the empty link at the end of its serial's path. The loop follows links; no index is counted.
 fn hang(links: &mut [u16; LINKS], root: usize, serial: u32, i: usize)
     requires { (root < i) × (i < HOLDS) × Growing i links.old }
     ensures { Hung (bits_of serial) root i links.old links.new }
@@ -142,52 +105,48 @@ fn enter(words: &[u32; WORDS], links: &mut [u16; LINKS], heads: &mut [u16; SLOTS
     }
 }
 
-// A place from which on all records are blank, by steps of 128 and then by halves of these. It is no part of the index, which is then short enough to be
-// compiled into both of its callers.
+// A place from which on all records are blank, by steps that halve. It is no part of the index, which is then short enough to be compiled into its callers.
 pub(crate) fn used_top(words: &[u32; WORDS]) -> usize
     ensures { (result ≤ HOLDS) × Blank words.now result }
 {
-    let by_128 = used_end(words, HOLDS, 128);
-    let by_64 = one_down(words, by_128, 64);
-    let by_32 = one_down(words, by_64, 32);
-    let by_16 = one_down(words, by_32, 16);
-    one_down(words, by_16, 8)
+    let mut top = HOLDS;
+    for step in [256, 128, 64, 32, 16, 8] {
+        top = one_down(words, top, step);
+    }
+    top
 }
 
-// The used records before a place are entered from the first place up; from there on all are blank.
+// The used records before a place are entered from the first place up; from there on all are blank. None where a record is not well-formed.
 pub(crate) fn index(
     words: &[u32; WORDS],
     links: &mut [u16; LINKS],
     heads: &mut [u16; SLOTS],
     top: usize,
-) -> Tally
+) -> Option<Tally>
     requires { (top ≤ HOLDS) × Blank words.now top × Built words.now 0 heads.old links.old }
-    ensures { Told words.now result.fine heads.new links.new result.low result.used }
+    ensures { MatchOption result (all well_formed (holds_of words.now) ≡ false)
+        (λ t. Index words.now heads.new links.new t.low t.used) }
 {
     let mut low = top;
     let mut blank: usize = 0;
-    let mut i: usize = 0;
-    while i < top {
+    for i in 0..top {
         let serial = serial_in(words, i);
         if serial == 0 {
             if !is_blank(words, i) {
-                return ill_formed();
+                return None;
             }
-            low = lower(low, i);
+            low = low.min(i);
             blank += 1;
-            i += 1;
-        } else {
-            if !is_possible(words, i) {
-                return ill_formed();
-            }
-            enter(words, links, heads, i);
-            i += 1;
+            continue;
         }
+        if !is_possible(words, i) {
+            return None;
+        }
+        enter(words, links, heads, i);
     }
     let used = top - blank;
-    Tally {
-        fine: true,
+    Some(Tally {
         low: low,
         used: used,
-    }
+    })
 }

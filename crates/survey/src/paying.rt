@@ -19,16 +19,6 @@ fn short_at(short: u32, grant: u32, remainder: u32) -> u32
     short
 }
 
-// What a quota owes, its grant without its remainder; 0 where the remainder is above the grant, compared before anything is subtracted.
-fn due_of(grant: u32, remainder: u32) -> u32
-    ensures { result ≡ grant - remainder }
-{
-    if grant < remainder {
-        return 0;
-    }
-    grant - remainder
-}
-
 // What each quota owes; false where a remainder is above its grant, or a number is no quota's permissions (rule 15.2). No quota ends the loop, which is so the
 // faster.
 pub(crate) fn owing(words: &[u32; WORDS], owed: &mut [usize; QUOTAS]) -> bool
@@ -37,16 +27,14 @@ pub(crate) fn owing(words: &[u32; WORDS], owed: &mut [usize; QUOTAS]) -> bool
 {
     let mut short: u32 = 0;
     let mut bits: u32 = 0;
-    let mut i: usize = 0;
-    while i < QUOTAS {
+    for i in 0..QUOTAS {
         let grant = grant_in(words, i);
         let remainder = remainder_in(words, i);
         let spare = spare_in(words, i);
-        let due = due_of(grant, remainder);
+        let due = grant.saturating_sub(remainder);
         short = short_at(short, grant, remainder);
-        bits = bits | spare;
+        bits |= spare;
         owed[i] = due as usize;
-        i += 1;
     }
     if short != 0 {
         return false;
@@ -61,10 +49,8 @@ fn is_paid(owed: &[usize; QUOTAS]) -> bool
     ensures { result ≡ all_zero owed.now }
 {
     let mut bits: usize = 0;
-    let mut i: usize = 0;
-    while i < QUOTAS {
-        bits = bits | owed[i];
-        i += 1;
+    for i in 0..QUOTAS {
+        bits |= owed[i];
     }
     bits == 0
 }

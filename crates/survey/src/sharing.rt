@@ -67,11 +67,9 @@ fn held_in(words: &[u32; WORDS], links: &[u16; LINKS], heads: &[u16; SLOTS], quo
 {
     let mut objects: usize = 0;
     let mut shared: usize = 0;
-    let mut i: usize = 0;
-    while i < HOLDS {
+    for i in 0..HOLDS {
         objects += own_at(words, quota, i);
         shared += shared_at(words, links, heads, quota, i);
-        i += 1;
     }
     Holdings {
         objects: objects,
@@ -87,12 +85,11 @@ pub fn held_by(words: &[u32; WORDS], quota: u32) -> Holdings
     let mut links = [end; LINKS];
     let mut heads = [end; SLOTS];
     let top = used_top(words);
-    let tally = index(words, &mut links, &mut heads, top);
-    if !tally.fine {
+    let Some(_) = index(words, &mut links, &mut heads, top) else {
         return Holdings {
             objects: 0,
             shared: 0,
         };
-    }
+    };
     held_in(words, &links, &heads, quota)
 }

@@ -1,7 +1,7 @@
 // Answers as numbers, so that the reply of an exported function and the answer of `perform` can be compared.
 use crate::comparing::same_handle;
 use crate::starting::handle;
-use model::{AmountAnswer, Answer, BlockAnswer, Handle, HandleAnswer, RangeAnswer, Verdict};
+use model::{Answer, Handle, ListedBlock, Range, Refusal};
 
 // What any call gives; what it does not give is zero.
 #[derive(Clone, Copy)]
@@ -64,39 +64,39 @@ pub(crate) fn told_block(refusal: u32, found: u32, start: usize, end: usize, ser
     }
 }
 
-fn of_verdict(answer: Verdict) -> Told {
+fn of_verdict(answer: Result<(), Refusal>) -> Told {
     match answer {
-        Verdict::Accepted => told_amount(0, 0),
-        Verdict::Refused(refusal) => told_amount(refusal.number(), 0),
+        Ok(()) => told_amount(0, 0),
+        Err(refusal) => told_amount(refusal.number(), 0),
     }
 }
 
-fn of_handle(answer: HandleAnswer) -> Told {
+fn of_handle(answer: Result<Handle, Refusal>) -> Told {
     match answer {
-        HandleAnswer::Given(given) => told_handle(0, given),
-        HandleAnswer::Refused(refusal) => told_amount(refusal.number(), 0),
+        Ok(given) => told_handle(0, given),
+        Err(refusal) => told_amount(refusal.number(), 0),
     }
 }
 
-fn of_amount(answer: AmountAnswer) -> Told {
+fn of_amount(answer: Result<u32, Refusal>) -> Told {
     match answer {
-        AmountAnswer::Amount(amount) => told_amount(0, amount),
-        AmountAnswer::Refused(refusal) => told_amount(refusal.number(), 0),
+        Ok(amount) => told_amount(0, amount),
+        Err(refusal) => told_amount(refusal.number(), 0),
     }
 }
 
-fn of_range(answer: RangeAnswer) -> Told {
+fn of_range(answer: Result<Range, Refusal>) -> Told {
     match answer {
-        RangeAnswer::Lent(range) => told_range(0, range.start, range.end),
-        RangeAnswer::Refused(refusal) => told_amount(refusal.number(), 0),
+        Ok(range) => told_range(0, range.start, range.end),
+        Err(refusal) => told_amount(refusal.number(), 0),
     }
 }
 
-fn of_block(answer: BlockAnswer) -> Told {
+fn of_block(answer: Result<Option<ListedBlock>, Refusal>) -> Told {
     match answer {
-        BlockAnswer::Listed(block) => told_block(0, 1, block.offset, block.size, block.serial),
-        BlockAnswer::NoBlock => told_amount(0, 0),
-        BlockAnswer::Refused(refusal) => told_amount(refusal.number(), 0),
+        Ok(Some(block)) => told_block(0, 1, block.offset, block.size, block.serial),
+        Ok(None) => told_amount(0, 0),
+        Err(refusal) => told_amount(refusal.number(), 0),
     }
 }
 

@@ -3,7 +3,7 @@
 use crate::comparing::same_state;
 use crate::starting::{bytes, plain_start, start};
 use crate::telling::tell;
-use image_model::WriteAnswer;
+use image_model::ImageRefusal;
 use words::WORDS;
 
 // A buffer longer than an image, and one that is too short by a byte.
@@ -16,8 +16,8 @@ pub(crate) fn room() -> [u8; ROOM] {
 }
 
 // Whether the writer wrote so many bytes.
-pub(crate) fn wrote(answer: WriteAnswer, length: usize) -> bool {
-    let WriteAnswer::Written(count) = answer else {
+pub(crate) fn wrote(answer: Result<usize, ImageRefusal>, length: usize) -> bool {
+    let Ok(count) = answer else {
         return false;
     };
     count == length
@@ -71,7 +71,7 @@ fn resumes() -> bool {
     let mut words = [0u32; WORDS];
     plain_start(&mut heap, &mut words);
     let mut image = [0u8; 5120];
-    image::in_place::write_image(&mut image, &heap, &words);
+    let _ = image::in_place::write_image(&mut image, &heap, &words);
     let mut other = bytes();
     let mut others = [4294967295u32; WORDS];
     let refusal = exports::lokhazim_raw_image_resume(&image, &mut other, &mut others);
@@ -84,7 +84,7 @@ fn resumes_no_spoiled() -> bool {
     let mut words = [0u32; WORDS];
     plain_start(&mut heap, &mut words);
     let mut image = [0u8; 5120];
-    image::in_place::write_image(&mut image, &heap, &words);
+    let _ = image::in_place::write_image(&mut image, &heap, &words);
     image[20] = 255;
     let mut other = bytes();
     let mut others = [4294967295u32; WORDS];
@@ -98,7 +98,7 @@ fn restores() -> bool {
     let mut words = [0u32; WORDS];
     plain_start(&mut heap, &mut words);
     let mut image = [0u8; 5120];
-    image::in_place::write_image(&mut image, &heap, &words);
+    let _ = image::in_place::write_image(&mut image, &heap, &words);
     let mut other = bytes();
     let mut others = [0u32; WORDS];
     start(&mut other, &mut others);
@@ -123,7 +123,7 @@ fn examines() -> bool {
     let mut words = [0u32; WORDS];
     plain_start(&mut heap, &mut words);
     let mut image = [0u8; 5120];
-    image::in_place::write_image(&mut image, &heap, &words);
+    let _ = image::in_place::write_image(&mut image, &heap, &words);
     let good = exports::lokhazim_image_examine(&image);
     image[20] = 255;
     let bad = exports::lokhazim_image_examine(&image);

@@ -11,7 +11,7 @@ fn form_1() -> [u8; 1536] {
     let mut words = [0u32; WORDS];
     plain_start(&mut heap, &mut words);
     let mut image = [0u8; 1536];
-    image::in_place::write_form_1(&mut image, &heap, &words);
+    let _ = image::in_place::write_form_1(&mut image, &heap, &words);
     image
 }
 
@@ -20,7 +20,7 @@ fn form_2() -> [u8; 5120] {
     let mut words = [0u32; WORDS];
     plain_start(&mut heap, &mut words);
     let mut image = [0u8; 5120];
-    image::in_place::write_image(&mut image, &heap, &words);
+    let _ = image::in_place::write_image(&mut image, &heap, &words);
     image
 }
 
@@ -29,9 +29,9 @@ fn changed() -> [u8; 5120] {
     let mut heap = bytes();
     let mut words = [0u32; WORDS];
     plain_start(&mut heap, &mut words);
-    heap::in_place::write_object(&mut heap, &words, first(), 2, 9);
+    let _ = heap::in_place::write_object(&mut heap, &words, first(), 2, 9);
     let mut image = [0u8; 5120];
-    image::in_place::write_image(&mut image, &heap, &words);
+    let _ = image::in_place::write_image(&mut image, &heap, &words);
     image
 }
 

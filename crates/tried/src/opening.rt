@@ -24,7 +24,7 @@ fn opens() -> bool {
     );
     let mut other = bytes();
     let mut others = used_words();
-    heap::in_place::open(&mut other, &mut others, grants(), quarantine());
+    let _ = heap::in_place::open(&mut other, &mut others, grants(), quarantine());
     refusal == 0 && same_state(&heap, &words, &other, &others)
 }
 

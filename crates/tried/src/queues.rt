@@ -63,8 +63,8 @@ fn sends() -> bool {
     start(&mut other, &mut others);
     let mut places = queue_words(0, handle(0, 0, 0));
     let refusal = exports::lokhazim_raw_queue_send(&mut heap, &mut words, &mut places, first());
-    heap::in_place::claim(&other, &mut others, 1, first());
-    heap::in_place::release(&mut other, &mut others, 0, first());
+    let _ = heap::in_place::claim(&other, &mut others, 1, first());
+    let _ = heap::in_place::release(&mut other, &mut others, 0, first());
     if refusal != 0 || !same_state(&heap, &words, &other, &others) {
         return false;
     }

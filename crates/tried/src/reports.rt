@@ -67,8 +67,8 @@ fn writes_lines() -> bool {
     let mut other = [170u8; 1730];
     let grants = two_grants();
     let reply = exports::lokhazim_raw_report_export(&mut text, Grants { values: grants });
-    report::export_grants(&mut other, grants);
-    if reply.refusal != 0 || reply.length != 1728 {
+    let written = report::export_grants(&mut other, grants);
+    if written.is_err() || reply.refusal != 0 || reply.length != 1728 {
         return false;
     }
     check::same(&text, &other)

@@ -44,16 +44,16 @@ pub(crate) fn bytes() -> [u8; 128] {
 
 // Opens the heap and makes both objects.
 fn open_with_two(heap: &mut [u8], words: &mut [u32; WORDS]) {
-    heap::in_place::open(heap, words, grants(), quarantine());
-    heap::in_place::allocate(heap, words, 0, 10);
-    heap::in_place::allocate(heap, words, 1, 24);
+    let _ = heap::in_place::open(heap, words, grants(), quarantine());
+    let _ = heap::in_place::allocate(heap, words, 0, 10);
+    let _ = heap::in_place::allocate(heap, words, 1, 24);
 }
 
 // A third object is released, so its block waits; and quota 2 loses its permissions.
 fn leave_one(heap: &mut [u8], words: &mut [u32; WORDS]) {
-    heap::in_place::allocate(heap, words, 0, 8);
-    heap::in_place::release(heap, words, 0, stale());
-    heap::in_place::clear_permissions(heap, words, 2, 7);
+    let _ = heap::in_place::allocate(heap, words, 0, 8);
+    let _ = heap::in_place::release(heap, words, 0, stale());
+    let _ = heap::in_place::clear_permissions(heap, words, 2, 7);
 }
 
 // The state that the head of this file describes.
@@ -87,6 +87,6 @@ pub(crate) fn plain_start(heap: &mut [u8], words: &mut [u32; WORDS]) {
         kind: Kind::Plain,
         edition: Edition::First,
     };
-    heap::in_place::open(heap, words, granted, chosen);
-    heap::in_place::allocate(heap, words, 0, 10);
+    let _ = heap::in_place::open(heap, words, granted, chosen);
+    let _ = heap::in_place::allocate(heap, words, 0, 10);
 }

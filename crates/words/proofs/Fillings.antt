@@ -3,7 +3,6 @@ use Prim.Native.Nat.{ℕ, zero, suc, ◌+◌, ◌*◌, ◌/◌, ◌%◌, ◌<◌
 use mathlib.Core.Path.{◌≡◌, refl, ap, sym, ◌∙◌}
 use mathlib.Core.List.{List, [], ◌∷◌, ◌++◌}
 use native.Mathlib.Omega.{arith}
-use borrow.Author.Count.{below_more}
 use lib.ListN.{length, get_or, set, length-set, length-append, get_or-append}
 use lib.Seq.{get_or-set_same, get_or-set_other, get_or-append-add, get_or_at, ext_get_or}
 use Rattle.accounts.specs.declared.Quota.{Quota}
@@ -11,9 +10,9 @@ use Rattle.accounts.specs.declared.Hold.{Hold}
 use Rattle.accounts.specs.declared.Accounts.{Accounts}
 use Rattle.accounts.specs.Accounts.{QUOTAS, HOLDS, zero_quota, zero_hold}
 use Rattle.words.specs.Words.{WORDS, LAST, FIRST, KINDS, quotas_of, holds_of, accounts_of, quota_words, hold_words, words_of}
-use Rattle.words.specs.Filling.{Packable, HasEntry, HasRecord, HasQuotas, HasHolds, Filled}
+use Rattle.words.specs.Filling.{Packable, HasEntry, HasQuotas, HasHolds, Filled}
 use Rattle.words.proofs.Words.{quotas_long, quotas_at, holds_long, holds_at}
-use Rattle.words.proofs.Writing.{quotas_kept, holds_kept, entered, entered_other, entered_here, renamed, held, held_other, held_serial, held_rest}
+use Rattle.words.proofs.Writing.{quotas_kept, holds_kept}
 use Rattle.words.proofs.Whole.{same_words}
 
 -- the words of the quotas, and of the records, by their places
@@ -154,54 +153,6 @@ module _ {k : Accounts} (t : Packable k) where
 
   pub words_long : length (words_of k) ≡ WORDS
   words_long = (words_filled k t.quotas t.holds).long
-
--- one quota more, and one record more
-module _ (words : List ℕ) (long : length words ≡ WORDS) (i : ℕ) (x : Quota) (few : i < QUOTAS) where
-  abbrev more : List ℕ
-  more = entered words long i x few
-
-  kept : (j : ℕ) → (j ≡ 3 * i → ⊥) → (j ≡ 3 * i + 1 → ⊥) → (j ≡ 3 * i + 2 → ⊥) → get_or more j 0 ≡ get_or words j 0
-  kept = entered_other words long i x few
-
-  pub entered_more : (qs : List Quota) → x ≡ get_or qs i zero_quota → ((j : ℕ) → j < i → HasEntry words j (get_or qs j zero_quota))
-      → (j : ℕ) → j < i + 1 → HasEntry more j (get_or qs j zero_quota)
-  entered_more qs e f =
-      below_more (λ (j : ℕ). HasEntry more j (get_or qs j zero_quota)) i
-      (λ j l.
-      let h = f j l in (
-        kept (3 * j) (λ z. omega arith) (λ z. omega arith) (λ z. omega arith) ∙ h.0,
-        kept (3 * j + 1) (λ z. omega arith) (λ z. omega arith) (λ z. omega arith) ∙ h.1,
-        kept (3 * j + 2) (λ z. omega arith) (λ z. omega arith) (λ z. omega arith) ∙ h.2,
-      ))
-      (let h = entered_here words long i x few in
-      (h.0 ∙ ap (λ (y : Quota). y.grant) e, h.1 ∙ ap (λ (y : Quota). y.remainder) e, h.2 ∙ ap (λ (y : Quota). y.permissions) e))
-
-module _ (words : List ℕ) (long : length words ≡ WORDS) (i : ℕ) (h : Hold) (rest : ℕ) (few : i < HOLDS) where
-  pub recorded_long : length (held words long i h.serial rest few) ≡ WORDS
-  recorded_long = length-set (renamed words long i h.serial rest few) (FIRST + 2 * i + 1) rest ∙ length-set words (FIRST + 2 * i) h.serial ∙ long
-
-  abbrev recorded : List ℕ
-  recorded = held words long i h.serial rest few
-
-  other : (j : ℕ) → (j ≡ FIRST + 2 * i → ⊥) → (j ≡ FIRST + 2 * i + 1 → ⊥) → get_or recorded j 0 ≡ get_or words j 0
-  other = held_other words long i h.serial rest few
-
-  pub recorded_before : (words₀ : List ℕ) → ((j : ℕ) → j < FIRST → get_or words j 0 ≡ get_or words₀ j 0)
-      → (j : ℕ) → j < FIRST → get_or recorded j 0 ≡ get_or words₀ j 0
-  recorded_before words₀ f j l = other j (λ z. omega arith) (λ z. omega arith) ∙ f j l
-
-  pub recorded_more : (hs : List Hold) → h ≡ get_or hs i zero_hold → rest ≡ 256 * h.count + h.quota
-      → ((j : ℕ) → j < i → HasRecord words j (get_or hs j zero_hold)) → (j : ℕ) → j < i + 1 → HasRecord recorded j (get_or hs j zero_hold)
-  recorded_more hs e r f =
-      below_more (λ (j : ℕ). HasRecord recorded j (get_or hs j zero_hold)) i
-      (λ j l.
-      let t = f j l in (
-        other (FIRST + 2 * j) (λ z. omega arith) (λ z. omega arith) ∙ t.0,
-        other (FIRST + 2 * j + 1) (λ z. omega arith) (λ z. omega arith) ∙ t.1,
-      )) (
-        held_serial words long i h.serial rest few ∙ ap (λ (x : Hold). x.serial) e,
-        held_rest words long i h.serial rest few ∙ r ∙ ap (λ (x : Hold). 256 * x.count + x.quota) e,
-      )
 
 -- the last serial, then kind and edition
 module _ (k : Accounts) (words words' : List ℕ) (rest : ℕ) (is : rest ≡ 256 * k.edition + k.kind)

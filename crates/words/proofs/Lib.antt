@@ -1,4 +1,5 @@
 pub mod Words
+pub mod Tables
 pub mod Writing
 pub mod Readings
 pub mod Padding

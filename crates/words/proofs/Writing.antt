@@ -96,13 +96,6 @@ module _ (words : List ℕ) (long : length words ≡ WORDS) (i : ℕ) (x : Quota
   abbrev pub entered : List ℕ
   entered = set (set (set words (3 * i) x.grant) (3 * i + 1) x.remainder) (3 * i + 2) x.permissions
 
-  pub entered_long : length entered ≡ WORDS
-  entered_long =
-      length-set (set (set words (3 * i) x.grant) (3 * i + 1) x.remainder) (3 * i + 2) x.permissions
-      ∙ length-set (set words (3 * i) x.grant) (3 * i + 1) x.remainder
-      ∙ length-set words (3 * i) x.grant
-      ∙ long
-
   pub entered_other : (j : ℕ) → (j ≡ 3 * i → ⊥) → (j ≡ 3 * i + 1 → ⊥) → (j ≡ 3 * i + 2 → ⊥) → get_or entered j 0 ≡ get_or words j 0
   entered_other j a b c =
       get_or-set_other (set (set words (3 * i) x.grant) (3 * i + 1) x.remainder) (3 * i + 2) j x.permissions 0 c

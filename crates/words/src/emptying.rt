@@ -29,9 +29,7 @@ pub fn drop_holds(words: &mut [u32; WORDS], quota: u8)
     ensures holds { accounts_of words.new ≡ with_holds (drop_records quota (holds_of words.old)) (accounts_of words.old) }
     ensures pads { Padded words.old words.new }
 {
-    let mut i: usize = 0;
-    while i < HOLDS {
-        drop_at(words, i, quota);
-        i += 1;
+    for at in 0..HOLDS {
+        drop_at(words, at, quota);
     }
 }

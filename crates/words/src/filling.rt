@@ -3,22 +3,17 @@ ghost use Rattle.std.specs.Prelude.{◌≡◌};
 ghost use Rattle.words.specs.Words.{accounts_of, words_of};
 ghost use Rattle.words.specs.Filling.{HasQuotas, HasHolds};
 
-use crate::writers::wide;
-use crate::{FIRST, KINDS, LAST, WORDS, count};
+use crate::{FIRST, KINDS, LAST, WORDS};
 use accounts::{Accounts, HOLDS, Hold, QUOTAS, Quota};
 
-// The quotas are written.
+// The quotas are written. What is written of a quota and of a record shares nothing but the loop, so each has its own.
 fn put_quotas(words: &mut [u32; WORDS], quotas: [Quota; QUOTAS])
     ensures { HasQuotas quotas words.new }
 {
-    count(*words);
-    let mut i: usize = 0;
-    while i < QUOTAS {
-        let quota = quotas[i];
+    for (i, quota) in quotas.iter().enumerate() {
         words[3 * i] = quota.grant;
         words[3 * i + 1] = quota.remainder;
-        words[3 * i + 2] = quota.permissions as u32;
-        i += 1;
+        words[3 * i + 2] = u32::from(quota.permissions);
     }
 }
 
@@ -26,15 +21,11 @@ fn put_quotas(words: &mut [u32; WORDS], quotas: [Quota; QUOTAS])
 fn put_holds(words: &mut [u32; WORDS], holds: [Hold; HOLDS])
     ensures { HasHolds holds words.old words.new }
 {
-    count(*words);
-    let mut i: usize = 0;
-    while i < HOLDS {
-        let hold = holds[i];
-        let low = wide(hold.quota);
-        let high = wide(hold.count);
+    for (i, hold) in holds.iter().enumerate() {
+        let low = u32::from(hold.quota);
+        let high = u32::from(hold.count);
         words[FIRST + 2 * i] = hold.serial;
         words[FIRST + 2 * i + 1] = 256 * high + low;
-        i += 1;
     }
 }
 
@@ -45,8 +36,8 @@ pub fn words_of(accounts: Accounts) -> [u32; WORDS]
 {
     let quotas = accounts.quotas;
     let holds = accounts.holds;
-    let low = wide(accounts.kind);
-    let high = wide(accounts.edition);
+    let low = u32::from(accounts.kind);
+    let high = u32::from(accounts.edition);
     let mut words = [0u32; WORDS];
     put_quotas(&mut words, quotas);
     put_holds(&mut words, holds);

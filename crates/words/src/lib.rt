@@ -33,8 +33,7 @@ pub const FIRST: usize = 3 * QUOTAS + 1;
 
 pub const KINDS: usize = 3 * QUOTAS + 2 * HOLDS + 1;
 
-// The number of words. The contract tells what an array's type does: the proof of a function that is lent an array does not know its length, nor that each word
-// has 32 bits. A call is compiled to nothing.
+// The number of words. The contract tells what the type of the words does: their number, and that each has 32 bits. A call is compiled to nothing.
 pub fn count(words: [u32; WORDS]) -> usize
     ensures { (length words ≡ WORDS) × Narrow words × (result ≡ WORDS) }
 {

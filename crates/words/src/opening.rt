@@ -5,20 +5,14 @@ ghost use Rattle.words.specs.Words.{accounts_of, Padded, Unpadded};
 ghost use Rattle.words.specs.Opening.{Blank, with_quota, with_grant, with_kinds};
 
 use crate::readers::word_at;
-use crate::writers::wide;
-use crate::{KINDS, WORDS, count};
+use crate::{KINDS, WORDS};
 use accounts::{ALL_PERMISSIONS, QUOTAS, Quota, Settings};
 
 // Every word becomes 0.
 fn wipe(words: &mut [u32; WORDS])
     ensures { Blank words.new }
 {
-    count(*words);
-    let mut i: usize = 0;
-    while i < WORDS {
-        words[i] = 0;
-        i += 1;
-    }
+    words.fill(0);
 }
 
 // The accounts become zero, padding too.
@@ -34,11 +28,10 @@ pub fn put_quota(words: &mut [u32; WORDS], q: usize, quota: Quota)
     ensures holds { accounts_of words.new ≡ with_quota q quota (accounts_of words.old) }
     ensures pads { Padded words.old words.new }
 {
-    count(*words);
     if QUOTAS <= q {
         return;
     }
-    let permissions = wide(quota.permissions);
+    let permissions = u32::from(quota.permissions);
     let spare = word_at(words, 3 * q + 2);
     words[3 * q] = quota.grant;
     words[3 * q + 1] = quota.remainder;
@@ -63,9 +56,8 @@ pub fn put_kinds(words: &mut [u32; WORDS], kind: u8, edition: u8)
     ensures holds { accounts_of words.new ≡ with_kinds kind edition (accounts_of words.old) }
     ensures pads { Padded words.old words.new }
 {
-    count(*words);
-    let low = wide(kind);
-    let high = wide(edition);
+    let low = u32::from(kind);
+    let high = u32::from(edition);
     let spare = word_at(words, KINDS);
     words[KINDS] = 65536 * (spare / 65536) + (256 * high + low);
 }
@@ -78,11 +70,8 @@ pub fn open(words: &mut [u32; WORDS], grants: [u32; QUOTAS], settings: Settings)
     let kind = settings.kind;
     let edition = settings.edition;
     wipe(words);
-    let mut i: usize = 0;
-    while i < QUOTAS {
-        let grant = grants[i];
-        put_grant(words, i, grant);
-        i += 1;
+    for (i, grant) in grants.iter().enumerate() {
+        put_grant(words, i, *grant);
     }
     put_kinds(words, kind.number(), edition.number());
 }

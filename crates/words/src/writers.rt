@@ -4,22 +4,15 @@ ghost use Rattle.accounts.specs.Accounts.{charge, refund, clear_permissions, wit
 ghost use Rattle.words.specs.Words.{accounts_of, Padded};
 
 use crate::readers::{left_permissions, word_at};
-use crate::{FIRST, LAST, WORDS, count};
+use crate::{FIRST, LAST, WORDS};
 use accounts::{GREATEST_NUMBER, HOLDS, Hold, QUOTAS};
 
-// A byte, wide.
-pub(crate) fn wide(byte: u8) -> u32
-    ensures { (result ≡ byte) × (result < 256) }
-{
-    byte as u32
-}
-
+// A charge and a refund differ in the test and in the new remainder; a function for both would take two closures, which is no plainer.
 // The quota pays; where there is no such quota, or it has less than that, nothing changes.
 pub fn charge(words: &mut [u32; WORDS], quota: u32, amount: u32)
     ensures holds { accounts_of words.new ≡ charge quota amount (accounts_of words.old) }
     ensures pads { Padded words.old words.new }
 {
-    count(*words);
     let q = quota as usize;
     if QUOTAS <= q {
         return;
@@ -36,7 +29,6 @@ pub fn refund(words: &mut [u32; WORDS], quota: u32, amount: u32)
     ensures holds { accounts_of words.new ≡ refund quota amount (accounts_of words.old) }
     ensures pads { Padded words.old words.new }
 {
-    count(*words);
     let q = quota as usize;
     if QUOTAS <= q {
         return;
@@ -53,12 +45,11 @@ pub fn clear_permissions(words: &mut [u32; WORDS], quota: u32, bits: u32)
     ensures holds { accounts_of words.new ≡ clear_permissions quota bits (accounts_of words.old) }
     ensures pads { Padded words.old words.new }
 {
-    count(*words);
     let q = quota as usize;
     if QUOTAS <= q {
         return;
     }
-    let left = wide(left_permissions(words, quota, bits));
+    let left = u32::from(left_permissions(words, quota, bits));
     let spare = word_at(words, 3 * q + 2);
     words[3 * q + 2] = 256 * (spare / 256) + left;
 }
@@ -68,7 +59,6 @@ pub fn set_last_serial(words: &mut [u32; WORDS], serial: u32)
     ensures holds { accounts_of words.new ≡ with_last_serial serial (accounts_of words.old) }
     ensures pads { Padded words.old words.new }
 {
-    count(*words);
     words[LAST] = serial;
 }
 
@@ -77,12 +67,11 @@ pub fn put_hold(words: &mut [u32; WORDS], at: usize, hold: Hold)
     ensures holds { accounts_of words.new ≡ put_hold at hold (accounts_of words.old) }
     ensures pads { Padded words.old words.new }
 {
-    count(*words);
     if HOLDS <= at {
         return;
     }
-    let quota = wide(hold.quota);
-    let times = wide(hold.count);
+    let quota = u32::from(hold.quota);
+    let times = u32::from(hold.count);
     let rest = word_at(words, FIRST + 2 * at + 1);
     words[FIRST + 2 * at] = hold.serial;
     words[FIRST + 2 * at + 1] = 65536 * (rest / 65536) + (256 * times + quota);

@@ -1,5 +1,6 @@
 -- Freeing a block in place is freeing it among the blocks: on the bytes of blocks the headers in front of a block and behind it are those of its
 -- neighbours, so the bytes that are written are those of the blocks with this one vacated and joined to its free neighbours.
+use Rattle.std.specs.Prelude.{Option, Some, None}
 use mathlib.Core.Path.{◌≡◌, refl, ap, sym, ◌∙◌}
 use Prim.Native.Nat.{ℕ, ◌+◌, ◌*◌, ◌-◌, ◌/◌, ◌≤◌}
 use native.Mathlib.Omega.{arith}
@@ -12,8 +13,6 @@ use Rattle.layout.specs.Blocks.{Block, size, units, occupied, QUARANTINED, total
 use Rattle.layout.specs.Blocks.{Writable}
 use Rattle.layout.specs.Blocks.{AllWritable}
 use Rattle.layout.specs.declared.Header.{Header}
-use Rattle.layout.specs.declared.Start.{Start}
-use Rattle.layout.specs.declared.Start.TheVariants.{Block as Starts, Nothing}
 use Rattle.layout.proofs.Starts.{start_found}
 use Rattle.layout.proofs.Render.{start_stands, start_ends, length_render, all_left, all_right, back_small, size_append}
 use Rattle.layout.proofs.Parse.{render_is}
@@ -21,19 +20,19 @@ use Rattle.model.specs.Space.{vacate, unquarantine}
 use Rattle.model.specs.Joining.{join_neighbours}
 use Rattle.model.proofs.Blocks.{total_is}
 use Rattle.writer.specs.Writes.{write_object}
-use Rattle.writer.specs.Writes.{join_bytes, free_bytes, unquarantine_bytes}
+use Rattle.writer.specs.Writes.{free_bytes, unquarantine_bytes}
 use Rattle.writer.proofs.FreeBytes.{free_size, free_behind, free_in_front, back_before, size_live, last_of, front_last, back_last, before_last}
 use Rattle.writer.proofs.FreeBytes.{cleared, vacate_writes, free_writes, unquarantine_writes, occupied_alone, vacant_behind}
 use Rattle.lookup.specs.declared.Met.{Met}
 use Rattle.writer.specs.declared.freeing.Room.{Room}
-use Rattle.writer.specs.Freeing.{room_of, room_at, free_block, free_end, quarantine_block, vacate_block, vacate_end, unquarantine_block, Inside}
+use Rattle.writer.specs.Freeing.{room_of, room_at, joined_bytes, free_block, free_end, quarantine_block, vacate_block, vacate_end, unquarantine_block, Inside}
 
 -- the room at a place, by what starts there
-pub room_nothing : (at : ℕ) (s : List ℕ) → start_at at s ≡ Nothing → room_at at s ≡ record { free = 0; back = 0 }
+pub room_nothing : (at : ℕ) (s : List ℕ) → start_at at s ≡ None → room_at at s ≡ record { free = 0; back = 0 }
 unfolding room_at
 room_nothing at s e = rw e
 
-pub room_starts : (at : ℕ) (s : List ℕ) (h : Header) → start_at at s ≡ Starts h → room_at at s ≡ room_of h
+pub room_starts : (at : ℕ) (s : List ℕ) (h : Header) → start_at at s ≡ Some h → room_at at s ≡ room_of h
 unfolding room_at
 room_starts at s h e = rw e
 
@@ -45,32 +44,29 @@ picked false n = omega arith
 pub room_ends : (at : ℕ) (s : List ℕ) → at ≤ length s → at + (room_at at s).free ≤ length s
 room_ends at s l = go (start_at at s) refl
   where
-    go : (x : Start) → start_at at s ≡ x → at + (room_at at s).free ≤ length s
-    go Nothing e = rw (room_nothing at s e) (omega arith)
-    go (Starts h) e =
+    go : (x : Option Header) → start_at at s ≡ x → at + (room_at at s).free ≤ length s
+    go None e = rw (room_nothing at s e) (omega arith)
+    go (Some h) e =
         let i = (start_found at s h e).inside in
         rw (room_starts at s h e) (omega (arith, picked (eqb h.serial 0) (8 * h.size)))
 
--- the three steps of freeing a block
+-- the two steps of freeing a block
 pub freed_is : (m : Met) (s : List ℕ) → 8 ≤ m.size → (front behind : Room) → front ≡ room_at (m.at - 8 * m.back) s → behind
     ≡ room_at (m.at + m.size) s
-    → (s₁ s₂ s₃ : List ℕ) → s₁ ≡ write_object (m.at + 8) (m.size - 8) m.back 0 s
-    → s₂ ≡ join_bytes m.at (m.at + m.size) (m.at + m.size + behind.free) m.back s₁
-    → s₃ ≡ join_bytes (m.at - front.free) m.at (m.at + m.size + behind.free) front.back s₂ → s₃ ≡ free_block m s
+    → (s₁ s₂ : List ℕ) → s₁ ≡ write_object (m.at + 8) (m.size - 8) m.back 0 s → s₂ ≡ joined_bytes m front behind.free s₁ → s₂ ≡ free_block m s
 unfolding free_block free_bytes
-freed_is m s l front behind p q s₁ s₂ s₃ e₁ e₂ e₃ =
+freed_is m s l front behind p q s₁ s₂ e₁ e₂ =
     let start : m.at + 8 - 8 ≡ m.at = omega arith in
     let end : m.at + 8 + (m.size - 8) ≡ m.at + m.size = omega arith in
-    rw (start, end, ← p, ← q, ← e₁, ← e₂) e₃
+    rw (start, end, ← p, ← q, ← e₁) e₂
 
 -- and of unquarantining one
 pub unquarantined_is : (m : Met) (s : List ℕ) → 8 ≤ m.size → (front behind : Room) → front ≡ room_at (m.at - 8 * m.back) s → behind ≡ room_at
     (m.at + m.size) s
-    → (s₁ s₂ s₃ : List ℕ) → s₁ ≡ write_header m.at (record { size = m.size / 8; back = m.back; serial = 0 }) s
-    → s₂ ≡ join_bytes m.at (m.at + m.size) (m.at + m.size + behind.free) m.back s₁
-    → s₃ ≡ join_bytes (m.at - front.free) m.at (m.at + m.size + behind.free) front.back s₂ → s₃ ≡ unquarantine_block m s
+    → (s₁ s₂ : List ℕ) → s₁ ≡ write_header m.at (record { size = m.size / 8; back = m.back; serial = 0 }) s → s₂ ≡ joined_bytes m front behind.free s₁
+    → s₂ ≡ unquarantine_block m s
 unfolding unquarantine_block unquarantine_bytes
-unquarantined_is m s l front behind p q s₁ s₂ s₃ e₁ e₂ e₃ = rw (← p, ← q, ← e₁, ← e₂) e₃
+unquarantined_is m s l front behind p q s₁ s₂ e₁ e₂ = rw (← p, ← q, ← e₁) e₂
 
 -- the room of a block among blocks
 same_free : (x : Bool) (m n : ℕ) → m ≡ n → cond x m 0 ≡ cond (not x) 0 n

@@ -1,10 +1,8 @@
 -- Freeing a block in place, from what stands on the heap's bytes: its free neighbours are found by the headers in front of it and behind it.
-use Rattle.std.specs.Prelude.{ℕ, ◌+◌, ◌*◌, ◌-◌, ◌≤◌, List, Bool, cond, ◌&&◌, leb, eqb, length}
+use Rattle.std.specs.Prelude.{ℕ, ◌+◌, ◌*◌, ◌-◌, ◌≤◌, List, Bool, cond, ◌&&◌, leb, eqb, length, Option, Some, None}
 use Rattle.layout.specs.Blocks.{start_at, greatest_heap, QUARANTINED}
 use Rattle.layout.specs.declared.Header.{Header}
-use Rattle.layout.specs.declared.Start.{Start}
-use Rattle.layout.specs.declared.Start.TheVariants.{Block as Starts, Nothing}
-use Rattle.writer.specs.Writes.{write_object, free_bytes, unquarantine_bytes}
+use Rattle.writer.specs.Writes.{write_object, join_bytes, free_bytes, unquarantine_bytes}
 use Rattle.lookup.specs.declared.Met.{Met}
 use Rattle.writer.specs.declared.freeing.Room.{Room}
 
@@ -12,13 +10,19 @@ use Rattle.writer.specs.declared.freeing.Room.{Room}
 abbrev pub room_of : Header → Room
 room_of h = record { free = cond (eqb h.serial 0) (8 * h.size) 0; back = h.back }
 
-abbrev pub room_start : Start → Room
-room_start Nothing = record { free = 0; back = 0 }
-room_start (Starts h) = room_of h
+abbrev pub room_start : Option Header → Room
+room_start None = record { free = 0; back = 0 }
+room_start (Some h) = room_of h
 
 -- the room at a place of s; none where no block starts
 unfoldable pub room_at : ℕ → List ℕ → Room
 room_at at s = room_start (start_at at s)
+
+-- a block that has become free joins a free one in front of it, by the room that stands there, and so many free bytes behind it
+abbrev pub joined_bytes : Met → Room → ℕ → List ℕ → List ℕ
+joined_bytes m front behind s =
+    let stop = m.at + m.size + behind in
+    join_bytes (m.at - front.free) m.at stop front.back (join_bytes m.at (m.at + m.size) stop m.back s)
 
 -- the block becomes free and joins its free neighbours
 unfoldable pub free_block : Met → List ℕ → List ℕ

@@ -1,11 +1,12 @@
 // Freeing (rules 8.18 and 8.19): a live block becomes free and joins its free neighbours.
-ghost use Rattle.std.specs.Prelude.{◌≡◌, ◌^◌, ◌<◌};
+ghost use Rattle.std.specs.Prelude.{◌≡◌, ◌+◌, ◌^◌, ◌≤◌, ◌<◌};
+ghost use Rattle.layout.specs.Blocks.{greatest_heap};
 ghost use Rattle.writer.specs.Writes.{join_bytes};
-ghost use Rattle.writer.specs.Freeing.{Inside, room_at, free_block, free_end, is_inside, vacate_block, vacate_end, vacate_in, vacate_end_in};
+ghost use Rattle.writer.specs.Freeing.{Inside, room_at, joined_bytes, free_block, free_end, is_inside, vacate_block, vacate_end, vacate_in, vacate_end_in};
 ghost use Rattle.writer.specs.Freeing.{unquarantine_block, unquarantine_in, free_end_in};
 
 use crate::writing::{put_next, put_object};
-use layout::{GREATEST_HEAP, Header, QUARANTINED, Start};
+use layout::{GREATEST_HEAP, Header, QUARANTINED};
 use lookup::Met;
 
 // What a header says of a block: its bytes if it is free, else 0, and the units of the block before it.
@@ -44,7 +45,7 @@ fn join(heap: &mut [u8], start: usize, mid: usize, stop: usize, back: usize)
 fn room_at(heap: &[u8], at: usize) -> Room
     ensures { result ≡ room_at at heap.now }
 {
-    let Start::Block(header) = layout::start_at(heap, at) else {
+    let Some(header) = layout::start_at(heap, at) else {
         return Room { free: 0, back: 0 };
     };
     if header.serial != 0 {
@@ -59,6 +60,20 @@ fn room_at(heap: &[u8], at: usize) -> Room
     }
 }
 
+// A block that has become free joins its free neighbours, so many bytes behind it among them; the end of the free block that this makes is given.
+fn join_neighbours(heap: &mut [u8], block: Met, front: Room, behind: usize) -> usize
+    requires { (front.free ≤ block.at) × (block.at + block.size + behind ≤ greatest_heap) }
+    ensures joins { heap.new ≡ joined_bytes block front behind heap.old }
+    ensures ends { result ≡ block.at + block.size + behind }
+{
+    let end = block.at + block.size;
+    let start = block.at - front.free;
+    let stop = end + behind;
+    join(heap, block.at, end, stop, block.back);
+    join(heap, start, block.at, stop, front.back);
+    stop
+}
+
 // A live block becomes free and joins its free neighbours; the end of the free block that this makes is given. The first block has no other in front
 // of it and meets itself there, which is not free.
 fn make_free(heap: &mut [u8], block: Met) -> usize
@@ -66,18 +81,10 @@ fn make_free(heap: &mut [u8], block: Met) -> usize
     ensures frees { heap.new ≡ free_block block heap.old }
     ensures ends { result ≡ free_end block heap.old }
 {
-    let at = block.at;
-    let size = block.size;
-    let back = block.back;
-    let end = at + size;
-    let front = room_at(heap, at - 8 * back);
-    let behind = room_at(heap, end);
-    let start = at - front.free;
-    let stop = end + behind.free;
-    put_object(heap, at + 8, size - 8, back, 0);
-    join(heap, at, end, stop, back);
-    join(heap, start, at, stop, front.back);
-    stop
+    let front = room_at(heap, block.at - 8 * block.back);
+    let behind = room_at(heap, block.at + block.size);
+    put_object(heap, block.at + 8, block.size - 8, block.back, 0);
+    join_neighbours(heap, block, front, behind.free)
 }
 
 // Whether a block and the one in front of it lie in a heap of an allowed length.
@@ -137,23 +144,15 @@ fn make_unquarantined(heap: &mut [u8], block: Met) -> usize
     ensures frees { heap.new ≡ unquarantine_block block heap.old }
     ensures ends { result ≡ free_end block heap.old }
 {
-    let at = block.at;
-    let size = block.size;
-    let back = block.back;
-    let end = at + size;
-    let front = room_at(heap, at - 8 * back);
-    let behind = room_at(heap, end);
-    let start = at - front.free;
-    let stop = end + behind.free;
+    let front = room_at(heap, block.at - 8 * block.back);
+    let behind = room_at(heap, block.at + block.size);
     let header = Header {
-        size: size / 8,
-        back: back,
+        size: block.size / 8,
+        back: block.back,
         serial: 0,
     };
-    layout::write_header(heap, at, header);
-    join(heap, at, end, stop, back);
-    join(heap, start, at, stop, front.back);
-    stop
+    layout::write_header(heap, block.at, header);
+    join_neighbours(heap, block, front, behind.free)
 }
 
 // The same; nothing is written, and 0 is given, where the block does not lie in the heap.

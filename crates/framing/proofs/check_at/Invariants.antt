@@ -1,9 +1,6 @@
-use Rattle.std.proofs.Common.{◌≡◌, ◌-◌, ◌%◌, ◌^◌, ◌≤◌, drop}
+use Rattle.std.proofs.Common.{◌≡◌, ◌%◌, ◌^◌, drop}
 use Rattle.framing.specs.Frames.{word_sum}
 use Rattle.framing.proofs.check_at.Given as goal
 
 abbrev pub invariant-loop-i : goal.invariant-loop-i
-invariant-loop-i l = (l.i ≤ 127) × (l.sum ≡ word_sum l.i (drop l.at l.image) % 2 ^ 32)
-
-abbrev pub decreases-loop-i : goal.decreases-loop-i
-decreases-loop-i l = 127 - l.i
+invariant-loop-i l = l.sum ≡ word_sum l.i (drop l.at l.image) % 2 ^ 32

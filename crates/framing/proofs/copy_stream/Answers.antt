@@ -10,33 +10,20 @@ use Rattle.framing.proofs.copy_stream.Goals.{At-loop-i}
 len : (c : At-loop-i) → length c.loop-i.out ≡ length c.args.out.now
 len c =
     let a = c.args in
-    ap length c.loop-i.invariant.2 ∙ length_overwrite 0 (padded c.loop-i.i (drop a.from (stream_of a.image.now))) a.out.now
+    ap length c.loop-i.invariant.1 ∙ length_overwrite 0 (padded c.loop-i.i (drop a.from (stream_of a.image.now))) a.out.now
 
 pub loop-i-init : goal.loop-i-init
-loop-i-init c = let a = c.args in (omega arith, refl, fill_none 0 (drop a.from (stream_of a.image.now)) a.out.now)
-
-pub overflow_add-start : goal.overflow_add-start
-overflow_add-start c = omega (arith, len (goal.at.overflow_add-start c).At-loop-i)
-
-pub overflow_add-i : goal.overflow_add-i
-overflow_add-i c = omega (arith, len (goal.at.overflow_add-i c).At-loop-i)
-
-pub loop-i-smaller : goal.loop-i-smaller
-loop-i-smaller c = omega (arith, len (goal.at.loop-i-smaller c).At-loop-i)
+loop-i-init c = let a = c.args in (refl, fill_none 0 (drop a.from (stream_of a.image.now)) a.out.now)
 
 pub loop-i-preserved : goal.loop-i-preserved
 loop-i-preserved c =
     let at = c in
     let a = at.args in
     let l = len (goal.at.loop-i-preserved c).At-loop-i in (
-      omega arith,
       refl,
       copy_more a.from at.loop-i.i c.stream_at.result (stream_of a.image.now) a.out.now at.loop-i.out (omega arith)
-          at.loop-i.invariant.2 c.stream_at.ensures,
+          at.loop-i.invariant.1 c.stream_at.ensures,
     )
-
-pub shape_of-out : goal.shape_of-out
-shape_of-out c = len (goal.at.shape_of-out c).At-loop-i
 
 pub returns : goal.returns
 returns c =
@@ -44,5 +31,5 @@ returns c =
     let a = at.args in
     let l = len (goal.at.returns c).At-loop-i in
     let e : at.loop-i.i ≡ length a.out.now = omega arith in
-    at.loop-i.invariant.2 ∙ copy_all at.loop-i.i (drop a.from (stream_of a.image.now)) a.out.now e
+    at.loop-i.invariant.1 ∙ copy_all at.loop-i.i (drop a.from (stream_of a.image.now)) a.out.now e
     ∙ ap (λ (n : ℕ). padded n (drop a.from (stream_of a.image.now))) e

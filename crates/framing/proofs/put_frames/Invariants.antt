@@ -1,10 +1,7 @@
-use Rattle.std.proofs.Common.{◌≡◌, ◌-◌, ◌≤◌, ◌++◌}
+use Rattle.std.proofs.Common.{◌≡◌, ◌++◌}
 use Rattle.layout.specs.Bytes.{overwrite}
 use Rattle.framing.specs.Frames.{cut_from}
 use Rattle.framing.proofs.put_frames.Given as goal
 
 abbrev pub invariant-loop-b : goal.invariant-loop-b
-invariant-loop-b l = (l.b ≤ l.count) × (l.image ≡ overwrite 0 (cut_from l.b 0 l.count (l.head ++ l.body)) l.initial.image)
-
-abbrev pub decreases-loop-b : goal.decreases-loop-b
-decreases-loop-b l = l.count - l.b
+invariant-loop-b l = l.image ≡ overwrite 0 (cut_from l.b 0 l.count (l.head ++ l.body)) l.initial.image

@@ -8,12 +8,10 @@ ghost use Rattle.image_model.specs.Items.{each};
 ghost use Rattle.image_model.specs.Stream.{entry_width, entries_at, record_width, blank};
 ghost use Rattle.image_model.specs.Reading.{entry_of, record_of, accounts_of as accounts_said};
 ghost use Rattle.image_model.specs.declared.Form.{Form};
-ghost use Rattle.image_model.specs.declared.ReadAnswer.TheVariants.{Refused};
 ghost use Rattle.image_model.specs.Answers.{restored_to};
 ghost use Rattle.image_model.specs.Images.{read_image};
 ghost use Rattle.image.specs.Parsing.{FormFits, restore};
 
-use crate::Shape;
 use crate::entries::read_entry;
 use crate::forms::{entry_at, heap_at};
 use crate::marks::{read_edition, read_kind};
@@ -22,26 +20,26 @@ use crate::parsing::shape_of;
 use crate::reading::is_consistent_in;
 use crate::records::read_record;
 use accounts::{Edition, Kind, QUOTAS, Settings};
-use image_model::{Form, ImageRefusal, ReadAnswer};
+use image_model::{Form, ImageRefusal};
 use words::WORDS;
 
-// The quotas of the first entries, so many of them, where all are blank.
-fn put_entries(words: &mut [u32; WORDS], image: &[u8], count: usize, full: bool)
-    requires { (count ≤ QUOTAS) × ((f : Form) → quotas_of words.old ≡ (blank f).quotas) }
-    ensures holds { (f : Form) → f.full ≡ full → accounts_of words.new
-        ≡ with_quotas (each (entry_of f) (entry_width f) count (drop entries_at (stream_of image.now)) ++ drop count (blank f).quotas)
+// The quotas of a form's entries, where all are blank.
+fn put_entries(words: &mut [u32; WORDS], image: &[u8], form: Form)
+    requires { (form.quotas ≤ QUOTAS) × (quotas_of words.old ≡ (blank form).quotas) }
+    ensures holds { accounts_of words.new
+        ≡ with_quotas (each (entry_of form) (entry_width form) form.quotas (drop entries_at (stream_of image.now))
+        ++ drop form.quotas (blank form).quotas)
         (accounts_of words.old) }
     ensures pads { Padded words.old words.new }
 {
-    let mut i: usize = 0;
-    while i < count {
-        let quota = read_entry(image, entry_at(i, full), full);
+    for i in 0..form.quotas {
+        let quota = read_entry(image, entry_at(i, form), form);
         words::put_quota(words, i, quota);
-        i += 1;
     }
 }
 
 // The first records from a place of the stream on, so many of them, where all are blank.
+// One function for these and the entries would take closures that read and put an item, and is no plainer.
 fn put_records(words: &mut [u32; WORDS], image: &[u8], at: usize, count: usize)
     requires { (count ≤ HOLDS) × (at < 65536) × ((f : Form) → holds_of words.old ≡ (blank f).holds) }
     ensures holds { (f : Form) → accounts_of words.new
@@ -49,11 +47,9 @@ fn put_records(words: &mut [u32; WORDS], image: &[u8], at: usize, count: usize)
         (accounts_of words.old) }
     ensures pads { Padded words.old words.new }
 {
-    let mut i: usize = 0;
-    while i < count {
+    for i in 0..count {
         let hold = read_record(image, at + i * 8);
         words::put_hold(words, i, hold);
-        i += 1;
     }
 }
 
@@ -70,29 +66,26 @@ fn put_blank(words: &mut [u32; WORDS])
 }
 
 // The accounts that an image of a form says.
-fn put_accounts(words: &mut [u32; WORDS], image: &[u8], form: Form)
+pub(crate) fn put_accounts(words: &mut [u32; WORDS], image: &[u8], form: Form)
     requires { FormFits form }
     ensures holds { accounts_of words.new ≡ accounts_said form (stream_of image.now) }
     ensures pads { Unpadded words.new }
 {
-    let quotas = form.quotas;
-    let records = form.records;
-    let full = form.full;
     put_blank(words);
-    put_entries(words, image, quotas, full);
+    put_entries(words, image, form);
     words::set_last_serial(words, read_quad(image, 8));
-    put_records(words, image, entry_at(quotas, full), records);
-    words::put_kinds(words, read_kind(image, full), read_edition(image, full));
+    put_records(words, image, entry_at(form.quotas, form), form.records);
+    words::put_kinds(words, read_kind(image, form), read_edition(image, form));
 }
 
 // A read that is refused.
-fn refused(words: &mut [u32; WORDS], refusal: ImageRefusal) -> ReadAnswer
-    ensures tells { result ≡ Refused refusal }
+fn refused(words: &mut [u32; WORDS], refusal: ImageRefusal) -> Result<(), ImageRefusal>
+    ensures tells { result ≡ Err refusal }
     ensures holds { accounts_of words.new ≡ zero_accounts }
     ensures pads { Unpadded words.new }
 {
     words::clear(words);
-    ReadAnswer::Refused(refusal)
+    Err(refusal)
 }
 
 // The heap of an image of a form goes into the lent one, and its accounts into the words, where the lent heap has its length and the state is consistent.
@@ -102,7 +95,7 @@ fn restore(
     words: &mut [u32; WORDS],
     form: Form,
     size: usize,
-) -> ReadAnswer
+) -> Result<(), ImageRefusal>
     requires { FormFits form × (allowed size ≡ true) }
     ensures holds { restored_to heap.new (accounts_of words.new) result
         ≡ restore form size (stream_of image.now) heap.old (accounts_said form (stream_of image.now)) }
@@ -117,18 +110,21 @@ fn restore(
         return refused(words, ImageRefusal::Unsound);
     }
     framing::copy_stream(image, from as u32, heap);
-    ReadAnswer::Restored
+    Ok(())
 }
 
 // The heap of an image into the lent heap, and its accounts into the words. A refused read leaves the heap as it is and gives zero
 // accounts. All words are set, padding to zero.
-pub fn read_image(image: &[u8], heap: &mut [u8], words: &mut [u32; WORDS]) -> ReadAnswer
+pub fn read_image(
+    image: &[u8],
+    heap: &mut [u8],
+    words: &mut [u32; WORDS],
+) -> Result<(), ImageRefusal>
     ensures holds { restored_to heap.new (accounts_of words.new) result ≡ read_image image.now heap.old }
     ensures pads { Unpadded words.new }
 {
-    let shape = shape_of(image);
-    match shape {
-        Shape::Image(form, size) => restore(image, heap, words, form, size),
-        Shape::Refused(refusal) => refused(words, refusal),
+    match shape_of(image) {
+        Ok((form, size)) => restore(image, heap, words, form, size),
+        Err(refusal) => refused(words, refusal),
     }
 }

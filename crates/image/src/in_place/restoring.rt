@@ -6,13 +6,17 @@ ghost use Rattle.image_model.specs.Images.{restore_image};
 ghost use Rattle.image.specs.Restoring.{Left};
 
 use crate::in_place;
-use image_model::ReadAnswer;
+use image_model::ImageRefusal;
 use words::WORDS;
 
 // The heap of an image into the lent heap, and its accounts into the words; padding becomes zero. A refused restore
 // leaves every byte and every word: the accounts are read into words of its own, and copied where the image is
 // accepted.
-pub fn restore_image(image: &[u8], heap: &mut [u8], words: &mut [u32; WORDS]) -> ReadAnswer
+pub fn restore_image(
+    image: &[u8],
+    heap: &mut [u8],
+    words: &mut [u32; WORDS],
+) -> Result<(), ImageRefusal>
     ensures holds { restored_to heap.new (accounts_of words.new) result
         ≡ restore_image image.now heap.old (accounts_of words.old) }
     ensures leaves { Left
@@ -20,12 +24,7 @@ pub fn restore_image(image: &[u8], heap: &mut [u8], words: &mut [u32; WORDS]) ->
         words.old words.new }
 {
     let mut fresh = [0u32; WORDS];
-    let answer = in_place::read_image(image, heap, &mut fresh);
-    match answer {
-        ReadAnswer::Restored => {
-            *words = fresh;
-            ReadAnswer::Restored
-        }
-        ReadAnswer::Refused(refusal) => ReadAnswer::Refused(refusal),
-    }
+    in_place::read_image(image, heap, &mut fresh)?;
+    *words = fresh;
+    Ok(())
 }

@@ -14,9 +14,8 @@ use crate::forms::{HEAD, form_1, form_2, heap_at};
 use crate::head::write_head;
 use crate::marks::marks;
 use crate::records::none_used;
-use framing::FrameAnswer;
-use image_model::{Form, ImageRefusal, WriteAnswer};
-use model::Verdict;
+use image_model::{Form, ImageRefusal};
+use model::Refusal;
 use words::WORDS;
 
 // Whether a form has room for everything in these accounts.
@@ -35,7 +34,7 @@ fn is_carried(form: Form, words: &[u32; WORDS]) -> bool
     if !are_permitted(words) {
         return false;
     }
-    marks(true, words::kind(words), words::edition(words)) == 0
+    marks(form_2(), words::kind(words), words::edition(words)) == 0
 }
 
 // Bytes for the longest head.
@@ -50,24 +49,26 @@ fn put_with(
     form: Form,
     heap: &[u8],
     words: &[u32; WORDS],
-) -> WriteAnswer
+) -> Result<usize, ImageRefusal>
     requires { (carries form (accounts_of words.now) ≡ true) × FormFits form × (length head.old ≡ head_length form) × (length heap.now ≤ 32768) }
     ensures { imaged image.new result ≡ put_image form image.old heap.now (accounts_of words.now) }
 {
     write_head(head, form, heap.len() as u32, words);
-    match framing::write_frames(image, head, heap) {
-        FrameAnswer::Written(length) => WriteAnswer::Written(length),
-        FrameAnswer::NoRoom => WriteAnswer::Refused(ImageRefusal::Room),
-    }
+    framing::write_frames(image, head, heap).ok_or(ImageRefusal::Room)
 }
 
 // The image of a heap and its accounts in a form, where the form says all of the accounts and there is room.
-fn put_image(image: &mut [u8], form: Form, heap: &[u8], words: &[u32; WORDS]) -> WriteAnswer
+fn put_image(
+    image: &mut [u8],
+    form: Form,
+    heap: &[u8],
+    words: &[u32; WORDS],
+) -> Result<usize, ImageRefusal>
     requires { FormFits form × (length heap.now ≤ 32768) }
     ensures { imaged image.new result ≡ put_image form image.old heap.now (accounts_of words.now) }
 {
     if !is_carried(form, words) {
-        return WriteAnswer::Refused(ImageRefusal::NotCarried);
+        return Err(ImageRefusal::NotCarried);
     }
     let end = heap_at(form);
     let mut head = head_space();
@@ -75,30 +76,38 @@ fn put_image(image: &mut [u8], form: Form, heap: &[u8], words: &[u32; WORDS]) ->
 }
 
 // Rule 8.35's verdict on the heap and its accounts.
-fn verdict_on(heap: &[u8], words: &[u32; WORDS]) -> Verdict
+fn verdict_on(heap: &[u8], words: &[u32; WORDS]) -> Result<(), Refusal>
     ensures { verdict_values result ≡ (check (table (edition_of words.now)) heap.now (accounts_of words.now)).values }
 {
-    let known = survey::survey(heap, words, survey::unasked());
-    survey::verdict(known.refusal)
+    survey::survey(heap, words, survey::unasked())?;
+    Ok(())
 }
 
 // The image of a heap and its accounts in form 2, written at the front of a lent one; its other bytes stay. The frame with the head and that of the survey
 // are never on the stack together: `put_image` has two callers, so the compiler keeps it apart.
-pub fn write_image(image: &mut [u8], heap: &[u8], words: &[u32; WORDS]) -> WriteAnswer
+pub fn write_image(
+    image: &mut [u8],
+    heap: &[u8],
+    words: &[u32; WORDS],
+) -> Result<usize, ImageRefusal>
     ensures { imaged image.new result ≡ write_image form_2 image.old heap.now (accounts_of words.now) }
 {
     match verdict_on(heap, words) {
-        Verdict::Accepted => put_image(image, form_2(), heap, words),
-        Verdict::Refused(refusal) => WriteAnswer::Refused(ImageRefusal::Call(refusal)),
+        Ok(()) => put_image(image, form_2(), heap, words),
+        Err(refusal) => Err(ImageRefusal::Call(refusal)),
     }
 }
 
 // The same in form 1, which not all accounts fit.
-pub fn write_form_1(image: &mut [u8], heap: &[u8], words: &[u32; WORDS]) -> WriteAnswer
+pub fn write_form_1(
+    image: &mut [u8],
+    heap: &[u8],
+    words: &[u32; WORDS],
+) -> Result<usize, ImageRefusal>
     ensures { imaged image.new result ≡ write_image form_1 image.old heap.now (accounts_of words.now) }
 {
     match verdict_on(heap, words) {
-        Verdict::Accepted => put_image(image, form_1(), heap, words),
-        Verdict::Refused(refusal) => WriteAnswer::Refused(ImageRefusal::Call(refusal)),
+        Ok(()) => put_image(image, form_1(), heap, words),
+        Err(refusal) => Err(ImageRefusal::Call(refusal)),
     }
 }

@@ -1,11 +1,8 @@
 -- Two parts do not meet exactly if the first ends by the second or the second by the first: the two tests, in this order.
 use Prim.Native.Nat.{◌+◌}
-use borrow.Author.Tests.{le-leb, lt-leb}
+use borrow.Author.Tests.{lt-leb}
 use Rattle.layout.proofs.Fields.{ends_is}
 use Rattle.layout.proofs.apart.Goals as goal
-
-pub returns-then-ends_by : goal.returns-then-ends_by
-returns-then-ends_by c = let a = c.args in rw (le-leb (a.from + a.count) a.to (c.ends_by.ensures.yes c.if-ends_by.true))
 
 pub returns : goal.returns
 returns c =

@@ -1,10 +1,10 @@
--- Where one part is not inside, or they meet, the heap stays (`copy_from`, `copy_to`, `copy_met`); else the loop of `copy` copies (`copy_all`).
+-- Where one part is not inside, or they meet, the heap stays (`copy_from`, `copy_to`, `copy_met`); else `copy_within` copies (`copied`).
 use native.Mathlib.Omega.{arith}
 use mathlib.Core.Path.{sym, ◌∙◌}
 use Prim.Native.Nat.{◌+◌, ◌≤◌}
 use lib.ListN.{length}
 use borrow.Author.Tests.{not-true, not-false}
-use Rattle.layout.proofs.Parts.{copy_from, copy_to, copy_met, copy_all}
+use Rattle.layout.proofs.Parts.{copy_from, copy_to, copy_met, copied}
 use Rattle.layout.proofs.copy_part.Goals as goal
 use Rattle.layout.proofs.copy_part.Goals.{Else-not-ends_by}
 
@@ -26,21 +26,12 @@ returns-then-not-ends_by-2 c =
     let t = c.ends_by-2.ensures.no (not-true _ c.if-not-ends_by-2.true-raw) in
     sym (copy_to a.from a.to a.count a.heap.now (omega arith) (omega arith))
 
-pub copy-requires : goal.copy-requires
-copy-requires c =
-    let test = c in
-    let target = test in
-    let f = source (goal.at.copy-requires c).Else-not-ends_by in
-    let t = target.ends_by-2.ensures.yes (not-false _ target.if-not-ends_by-2.false-raw) in
-    (omega arith, omega arith, sym test.apart.ensures ∙ test.if-apart.true)
-
 pub returns-then-apart : goal.returns-then-apart
 returns-then-apart c =
-    let test = c in
-    let a = test.args in
+    let a = c.args in
     let f = source (goal.at.returns-then-apart c).Else-not-ends_by in
-    copy_all a.from a.to a.count a.heap.now (sym test.apart.ensures ∙ test.if-apart.true) (omega arith)
-    c.copy.new.heap c.copy.ensures
+    let t = c.ends_by-2.ensures.yes (not-false _ c.if-not-ends_by-2.false-raw) in
+    c.copy_within.ensures.after ∙ copied a.from a.to a.count a.heap.now (sym c.apart.ensures ∙ c.if-apart.true) (omega arith) (omega arith)
 
 pub returns-else-apart : goal.returns-else-apart
 returns-else-apart c =

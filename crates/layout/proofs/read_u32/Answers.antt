@@ -2,14 +2,10 @@
 use native.Mathlib.Omega.{arith}
 use mathlib.Core.Path.{sym}
 use Rattle.layout.proofs.Fields.{read_not}
-use borrow.Author.Rules.{rules}
 use Rattle.layout.proofs.read_u32.Goals as goal
 
 pub read_quad-requires : goal.read_quad-requires
 read_quad-requires c = let l = c.ends_by.ensures.yes c.if-ends_by.true in omega arith
-
-pub returns-then-ends_by : goal.returns-then-ends_by
-returns-then-ends_by c = search rules
 
 pub returns-else-ends_by : goal.returns-else-ends_by
 returns-else-ends_by c =

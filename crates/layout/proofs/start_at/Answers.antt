@@ -2,16 +2,9 @@
 -- fails (`start_no`), and which together make it (`start_header`).
 use native.Mathlib.Omega.{arith}
 use mathlib.Core.Path.{sym}
-use borrow.Author.Tests.{not-true, not-false}
-use Rattle.layout.proofs.Starts.{start_header, start_no}
+use borrow.Author.Tests.{not-false}
+use Rattle.layout.proofs.Starts.{start_header}
 use Rattle.layout.proofs.start_at.Goals as goal
-
-pub returns-then-not-ends_by : goal.returns-then-not-ends_by
-returns-then-not-ends_by c =
-    let r = c in
-    let a = r.args in
-    let l = c.ends_by.ensures.no (not-true _ c.if-not-ends_by.true-raw) in
-    sym (start_no a.at a.heap.now (sym r.header_at-header.ensures.0) (λ p. omega arith))
 
 pub returns : goal.returns
 returns c =

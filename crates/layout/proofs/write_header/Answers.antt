@@ -19,21 +19,6 @@ returns-then-not-ends_by c =
 room : (c : Else-not-ends_by) → c.args.at + 8 ≤ length c.args.heap.now
 room c = let l = c.ends_by.ensures.yes (not-false _ c.if-not-ends_by.false-raw) in omega arith
 
-pub write_pair-requires : goal.write_pair-requires
-write_pair-requires c = let l = room (goal.at.write_pair-requires c).Else-not-ends_by in omega arith
-
-pub overflow_add-at : goal.overflow_add-at
-overflow_add-at c = let l = room (goal.at.overflow_add-at c).Else-not-ends_by in omega arith
-
-pub write_pair-requires-2 : goal.write_pair-requires-2
-write_pair-requires-2 c = let l = room (goal.at.write_pair-requires-2 c).Else-not-ends_by in omega arith
-
-pub overflow_add-at-2 : goal.overflow_add-at-2
-overflow_add-at-2 c = let l = room (goal.at.overflow_add-at-2 c).Else-not-ends_by in omega arith
-
-pub write_quad-requires : goal.write_quad-requires
-write_quad-requires c = let l = room (goal.at.write_quad-requires c).Else-not-ends_by in omega arith
-
 pub returns : goal.returns
 returns c =
     let third = c in

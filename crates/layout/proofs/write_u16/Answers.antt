@@ -3,7 +3,6 @@ use native.Mathlib.Omega.{arith}
 use mathlib.Core.Path.{sym}
 use borrow.Author.Tests.{not-true, not-false}
 use Rattle.layout.proofs.Fields.{write_not}
-use borrow.Author.Rules.{rules}
 use Rattle.layout.proofs.write_u16.Goals as goal
 
 pub returns-then-not-ends_by : goal.returns-then-not-ends_by
@@ -14,6 +13,3 @@ returns-then-not-ends_by c =
 
 pub write_pair-requires : goal.write_pair-requires
 write_pair-requires c = let l = c.ends_by.ensures.yes (not-false _ c.if-not-ends_by.false-raw) in omega arith
-
-pub returns : goal.returns
-returns c = search rules

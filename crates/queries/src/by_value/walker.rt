@@ -6,9 +6,8 @@ ghost use Rattle.model.specs.Calls.{list_block};
 ghost use Rattle.results.specs.Results.{outcome};
 ghost use Rattle.queries.specs.Listing.{Stepped};
 
-use crate::by_value::listing::list_block;
 use accounts::Accounts;
-use model::BlockAnswer;
+use model::{ListedBlock, Refusal};
 
 // The heap, and the place of the block that comes next.
 #[derive(Clone, Copy)]
@@ -22,27 +21,36 @@ pub struct Walker<'a> {
 pub struct Step<'a> {
     pub heap: &'a [u8],
     pub at: usize,
-    pub answer: BlockAnswer,
+    pub answer: Result<Option<ListedBlock>, Refusal>,
 }
 
 // What a step from a place answers, and the place behind it.
 #[derive(Clone, Copy)]
 struct Given {
-    answer: BlockAnswer,
+    answer: Result<Option<ListedBlock>, Refusal>,
     at: usize,
+}
+
+// What a step of a walker at a place answers: the block that starts there, if one does.
+pub fn list_from(heap: &[u8], accounts: Accounts, at: usize) -> Result<Option<ListedBlock>, Refusal>
+    ensures { outcome heap.now accounts (block_values result) ≡ list_block (table accounts.edition) heap.now accounts at }
+{
+    let words = words::words_of(accounts);
+    crate::list_block(heap, &words, at)
 }
 
 // The block that starts at a place, and the place behind it; where none is given, the same place.
 fn step_from(heap: &[u8], accounts: Accounts, at: usize) -> Given
     ensures { Stepped (table accounts.edition) heap.now accounts at result.answer result.at }
 {
-    let answer = list_block(heap, accounts, at);
-    let BlockAnswer::Listed(block) = answer else {
-        return Given { answer, at };
-    };
-    Given {
-        answer,
-        at: block.offset + block.size,
+    let answer = list_from(heap, accounts, at);
+    match answer {
+        Ok(Some(block)) => Given {
+            answer,
+            at: block.offset + block.size,
+        },
+        Ok(None) => Given { answer, at },
+        Err(_) => Given { answer, at },
     }
 }
 
@@ -64,11 +72,4 @@ pub fn next<'a>(walker: Walker<'a>, accounts: Accounts) -> Step<'a>
         at: given.at,
         answer: given.answer,
     }
-}
-
-// What a step of a walker at a place answers: with plain parameters.
-pub fn list_from(heap: &[u8], accounts: Accounts, at: usize) -> BlockAnswer
-    ensures { outcome heap.now accounts (block_values result) ≡ list_block (table accounts.edition) heap.now accounts at }
-{
-    next(Walker { heap, at }, accounts).answer
 }

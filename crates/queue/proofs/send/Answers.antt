@@ -1,12 +1,12 @@
 -- `queue::send` meets its contract: first the lines of the queue, next those of a claim and of a release, both with the accounts as they came; after that
 -- the release takes the accounts of the claim.
+use Rattle.std.specs.Prelude.{Result}
+use Rattle.model.specs.declared.Refusal.{Refusal}
 use Prim.Native.Nat.{ℕ}
 use mathlib.Core.Path.{ap, sym, ◌∙◌}
 use Rattle.rounding.specs.Rounding.{table}
 use Rattle.model.specs.Answers.{amount_values, verdict_values, refusal_number}
 use Rattle.model.specs.Calls.{Outcome, release}
-use Rattle.model.specs.declared.AmountAnswer.{AmountAnswer}
-use Rattle.model.specs.declared.Verdict.{Verdict}
 use Rattle.model.proofs.Answers.{refusal_number_is}
 use Rattle.queue.specs.declared.Queue.{Queue}
 use Rattle.queue.specs.Results.{send_number, send_outcome}
@@ -28,34 +28,35 @@ returns-then-queue-eq-PLACES c =
     ∙ send_full (table a.accounts.edition) a.heap.now a.accounts a.queue a.handle c.if-queue-gt-PLACES.false
     c.if-queue-eq-PLACES.true
 
-pub returns-in-Refused : goal.returns-in-Refused
+pub returns-in-Err : goal.returns-in-Err
 unfolding send_number amount_values
-returns-in-Refused c =
+returns-in-Err c =
     let m = c in
     let e = m in
     let a = e.args in
     let r = c in
-    ap (send_outcome a.heap.now) c.not_sent-in-Refused.ensures
+    ap (send_outcome a.heap.now) c.not_sent-in-Err.ensures
     ∙ send_unclaimed (table a.accounts.edition) a.heap.now a.accounts a.queue a.handle e.if-queue-gt-PLACES.false e.if-queue-eq-PLACES.false
-    (refusal_number r.in-Refused.refusal)
-    (sym (ap (λ (t : Outcome). t.values.refusal) m.claim-claimed.ensures) ∙ ap (λ (x : AmountAnswer). (amount_values x).refusal) r.in-Refused.is)
-    (refusal_number_is r.in-Refused.refusal).1
+    (refusal_number r.in-Err.refusal)
+    (sym (ap (λ (t : Outcome). t.values.refusal) m.claim-claimed.ensures) ∙ ap (λ (x : Result ℕ Refusal). (amount_values x).refusal) r.in-Err.is)
+    (refusal_number_is r.in-Err.refusal).1
 
-pub returns-in-Refused-can_release : goal.returns-in-Refused-can_release
+pub returns-in-Err-can_release : goal.returns-in-Err-can_release
 unfolding send_number amount_values verdict_values
-returns-in-Refused-can_release c =
+returns-in-Err-can_release c =
     let v = c in
     let told = v in
     let m = told in
     let e = m in
     let a = e.args in
     let r = c in
-    ap (send_outcome a.heap.now) c.not_sent-in-Refused-can_release.ensures
+    ap (send_outcome a.heap.now) c.not_sent-in-Err-can_release.ensures
     ∙ send_unreleased (table a.accounts.edition) a.heap.now a.accounts a.queue a.handle e.if-queue-gt-PLACES.false e.if-queue-eq-PLACES.false
-    (sym (ap (λ (t : Outcome). t.values.refusal) m.claim-claimed.ensures) ∙ ap (λ (x : AmountAnswer). (amount_values x).refusal) told.in_default.is)
-    (refusal_number r.in-Refused-can_release.refusal)
-    (sym (ap (λ (t : Outcome). t.values.refusal) v.can_release.ensures) ∙ ap (λ (x : Verdict). (verdict_values x).refusal) r.in-Refused-can_release.is)
-    (refusal_number_is r.in-Refused-can_release.refusal).1
+    (sym (ap (λ (t : Outcome). t.values.refusal) m.claim-claimed.ensures) ∙ ap (λ (x : Result ℕ Refusal). (amount_values x).refusal) told.in_default.is)
+    (refusal_number r.in-Err-can_release.refusal)
+    (sym (ap (λ (t : Outcome). t.values.refusal) v.can_release.ensures)
+    ∙ ap (λ (x : Result (Unit {0}) Refusal). (verdict_values x).refusal) r.in-Err-can_release.is)
+    (refusal_number_is r.in-Err-can_release.refusal).1
 
 pub returns : goal.returns
 unfolding send_number amount_values verdict_values
@@ -68,7 +69,7 @@ returns c =
     let e = m in
     let a = e.args in
     let z =
-    sym (ap (λ (t : Outcome). t.values.refusal) m.claim-claimed.ensures) ∙ ap (λ (x : AmountAnswer). (amount_values x).refusal) told.in_default.is in
+    sym (ap (λ (t : Outcome). t.values.refusal) m.claim-claimed.ensures) ∙ ap (λ (x : Result ℕ Refusal). (amount_values x).refusal) told.in_default.is in
     let same =
     ap (λ (t : Outcome). t.accounts.edition) m.claim-claimed.ensures
     ∙ claim_edition a.heap.now a.accounts a.queue.receiver a.handle in
@@ -77,5 +78,6 @@ returns c =
     ∙ send_made (table a.accounts.edition) a.heap.now a.accounts a.queue a.handle e.if-queue-gt-PLACES.false e.if-queue-eq-PLACES.false z
     f.release-released.new.heap m.claim-claimed.result.accounts f.release-released.result.accounts
     (amount_values m.claim-claimed.result.answer) (amount_values f.release-released.result.answer) m.claim-claimed.ensures
-    (sym (ap (λ (t : Outcome). t.values.refusal) v.can_release.ensures) ∙ ap (λ (x : Verdict). (verdict_values x).refusal) told₂.in_default-can_release.is)
+    (sym (ap (λ (t : Outcome). t.values.refusal) v.can_release.ensures)
+    ∙ ap (λ (x : Result (Unit {0}) Refusal). (verdict_values x).refusal) told₂.in_default-can_release.is)
     (f.release-released.ensures ∙ ap (λ (n : ℕ). release (table n) a.heap.now m.claim-claimed.result.accounts a.queue.sender a.handle) same)

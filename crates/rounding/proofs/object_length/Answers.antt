@@ -2,8 +2,6 @@
 -- rounding down again gives no more than what was rounded.
 use Prim.Native.Nat.{ℕ, ◌+◌, ◌*◌, ◌-◌, ◌/◌}
 use mathlib.Core.Path.{ap}
-use borrow.Author.Rules.{rules}
-use native.Mathlib.Nat.{div-mul-le_self, lt_of_le_of_lt}
 use native.Mathlib.Omega.{arith}
 use Rattle.rounding.specs.Rounding.{object_length}
 use Rattle.rounding.proofs.Editions.{table_is}
@@ -19,6 +17,3 @@ overflow_sub-result c = omega (arith, (table_is c.args.edition).positive c.args.
 
 pub nonzero_div-result : goal.nonzero_div-result
 nonzero_div-result c = omega (arith, (table_is c.args.edition).positive c.args.length)
-
-pub overflow_mul-result : goal.overflow_mul-result
-overflow_mul-result c = record { fits = lt_of_le_of_lt (div-mul-le_self _ _) (search rules) }

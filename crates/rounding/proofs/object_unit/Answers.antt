@@ -1,7 +1,7 @@
 -- `rounding::object_unit` meets its contract: 1, shifted by the power that goes with the length's leading zeros.
 use native.Mathlib.Omega.{arith}
 use Rattle.rounding.proofs.Zeros.{zeros_fit}
-use Rattle.rounding.proofs.ByZeros.{power_most, shifted}
+use Rattle.rounding.proofs.ByZeros.{shifted}
 use Rattle.rounding.proofs.object_unit.Goals as goal
 
 -- this stands first, so that a wrong count is refused here
@@ -14,9 +14,3 @@ returns c =
 pub power-power-requires : goal.power-power-requires
 power-power-requires c =
     omega (arith, zeros_fit 32 c.args.length c.ranges.length.fits, c.leading_zeros-zeros.ensures)
-
-pub overflow_cast-power : goal.overflow_cast-power
-overflow_cast-power c = record { fits = omega (arith, power_most c.args.edition c.leading_zeros-zeros.result, c.power-power.ensures) }
-
-pub overflow_shl-result : goal.overflow_shl-result
-overflow_shl-result c = omega (arith, power_most c.args.edition c.leading_zeros-zeros.result, c.power-power.ensures)

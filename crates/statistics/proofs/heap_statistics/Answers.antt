@@ -24,9 +24,9 @@ use Rattle.statistics.proofs.Laws.{statistics_refused, statistics_accepted, cut,
 use Rattle.statistics.proofs.heap_statistics.Goals as goal
 use Rattle.statistics.proofs.heap_statistics.Goals.{After-struct_known-1, In_default}
 
-pub returns-in-Refused : goal.returns-in-Refused
+pub returns-in-Err : goal.returns-in-Err
 unfolding heap_statistics row_lines
-returns-in-Refused c =
+returns-in-Err c =
     let n = c in
     let x = n in
     let e = x in
@@ -37,7 +37,7 @@ returns-in-Refused c =
     let u = table (edition_of w) in
     let r = x in
     c.no_statistics.ensures ∙ ap no_statistics n.number.ensures
-    ∙ statistics_refused _ (counted u s k) r.in-Refused.refusal (check_refuses u s k e.check.result e.check.ensures [] r.in-Refused.refusal r.in-Refused.is)
+    ∙ statistics_refused _ (counted u s k) r.in-Err.refusal (check_refuses u s k e.check.result e.check.ensures [] r.in-Err.refusal r.in-Err.is)
 
 abbrev accounts : In_default → Accounts
 accounts c = accounts_of c.args.words.now

@@ -13,9 +13,9 @@ use Rattle.statistics.specs.Statistics.{quota_statistics, quota_counted, no_quot
 use Rattle.statistics.proofs.Laws.{quota_refused, quota_accepted, held_all}
 use Rattle.statistics.proofs.quota_statistics.Goals as goal
 
-pub returns-in-Refused : goal.returns-in-Refused
+pub returns-in-Err : goal.returns-in-Err
 unfolding quota_statistics row_lines
-returns-in-Refused c =
+returns-in-Err c =
     let n = c in
     let x = n in
     let e = x in
@@ -26,8 +26,8 @@ returns-in-Refused c =
     let u = table (edition_of w) in
     let r = x in
     c.no_quota_statistics.ensures ∙ ap no_quota_statistics n.number.ensures
-    ∙ quota_refused _ (quota_counted k a.quota) r.in-Refused.refusal
-    (check_refuses u s k e.check.result e.check.ensures (line_3 a.quota ∷ []) r.in-Refused.refusal r.in-Refused.is)
+    ∙ quota_refused _ (quota_counted k a.quota) r.in-Err.refusal
+    (check_refuses u s k e.check.result e.check.ensures (line_3 a.quota ∷ []) r.in-Err.refusal r.in-Err.is)
 
 pub returns-then-quota-ge-QUOTAS : goal.returns-then-quota-ge-QUOTAS
 unfolding quota_statistics row_lines

@@ -1,136 +1,46 @@
 -- `allocation::release` meets its contract: the survey, the quota's number, the object and the quota's record are the lines of release, and past them the hold
 -- that is dropped is the definition's.
-use native.Mathlib.Omega.{arith}
-use mathlib.Core.Path.{refl, sym, ◌∙◌}
-use borrow.Author.Tests.{not-true, not-false}
+use mathlib.Core.Path.{refl, ap, ◌∙◌}
+use Rattle.std.proofs.lemmas.Result.{err_from_is_err_and}
 use Rattle.words.specs.Words.{accounts_of}
-use Rattle.words.proofs.Padding.{padded_same}
-use Rattle.survey.proofs.Told.{place_at, place_nothing}
 use Rattle.allocation.proofs.Releases.{released_checked, released_numbered, released_missed, released_unheld, released_droppable, released_is}
 use Rattle.allocation.proofs.releasing.release.Goals as goal
 
-pub returns-in-Refused : goal.returns-in-Refused
-returns-in-Refused c =
-    let at-refusal = c in
-    let at-verdict = at-refusal in
-    let at-survey = at-verdict in
-    let at-asked = at-survey in
-    let start = at-asked in
-    let a = start.args in
-    let s = a.heap.now in
-    let k = accounts_of a.words.now in
-    let r = at-survey.survey-known in
-    let asked = at-asked.asked in
-    let x = at-refusal in
-    let no = sym at-verdict.verdict.ensures ∙ x.in-Refused.is in
-    record {
-      holds = released_checked s k a.quota a.handle asked.result r.result asked.ensures r.ensures x.in-Refused.refusal no _ refl;
-      pads = padded_same a.words.now;
-    }
+pub returns-in_err-known-clause-holds : goal.returns-in_err-known-clause-holds
+returns-in_err-known-clause-holds c =
+    let a = c.args in
+    let p = err_from_is_err_and c.from_residual.result c.from_residual.ensures.1 in
+    rw (p.1, p.2) (released_checked a.heap.now (accounts_of a.words.now) a.quota a.handle c.asked.result c.survey.result c.asked.ensures c.survey.ensures _
+    c.in_err-known.was _ refl)
 
-pub returns-then-quota-ge-QUOTAS : goal.returns-then-quota-ge-QUOTAS
-returns-then-quota-ge-QUOTAS c =
-    let at-enum-told = c in
-    let at-verdict = at-enum-told in
-    let at-survey = at-verdict in
-    let at-asked = at-survey in
-    let start = at-asked in
-    let a = start.args in
-    let s = a.heap.now in
-    let k = accounts_of a.words.now in
-    let r = at-survey.survey-known in
-    let asked = at-asked.asked in
-    let ok = sym at-verdict.verdict.ensures ∙ at-enum-told.in_default.is in
-    record {
-      holds = released_numbered s k a.quota a.handle asked.result r.result asked.ensures r.ensures
-          ok c.if-quota-ge-QUOTAS.true _ refl;
-      pads = padded_same a.words.now;
-    }
+pub returns-then-quota-ge-QUOTAS-clause-holds : goal.returns-then-quota-ge-QUOTAS-clause-holds
+returns-then-quota-ge-QUOTAS-clause-holds c =
+    let a = c.args in
+    released_numbered a.heap.now (accounts_of a.words.now) a.quota a.handle c.asked.result c.survey.result c.asked.ensures c.survey.ensures
+    c.in_ok-known.known c.in_ok-known.was c.if-quota-ge-QUOTAS.true _ refl
 
-pub returns-then-not-known : goal.returns-then-not-known
-returns-then-not-known c =
-    let else1 = c in
-    let at-enum-told = else1 in
-    let at-verdict = at-enum-told in
-    let at-survey = at-verdict in
-    let at-asked = at-survey in
-    let start = at-asked in
-    let a = start.args in
-    let s = a.heap.now in
-    let k = accounts_of a.words.now in
-    let r = at-survey.survey-known in
-    let asked = at-asked.asked in
-    let ok = sym at-verdict.verdict.ensures ∙ at-enum-told.in_default.is in
-    record {
-      holds = released_missed s k a.quota a.handle asked.result r.result asked.ensures r.ensures
-          ok else1.if-quota-ge-QUOTAS.false (not-true _ c.if-not-known.true) _ refl;
-      pads = padded_same a.words.now;
-    }
+pub returns-in_default-clause-holds : goal.returns-in_default-clause-holds
+returns-in_default-clause-holds c =
+    let a = c.args in
+    released_missed a.heap.now (accounts_of a.words.now) a.quota a.handle c.asked.result c.survey.result c.asked.ensures c.survey.ensures
+    c.in_ok-known.known c.in_ok-known.was c.if-quota-ge-QUOTAS.false c.in_default.is _ refl
 
-pub returns-then-place-ge-HOLDS : goal.returns-then-place-ge-HOLDS
-returns-then-place-ge-HOLDS c =
-    let else2 = c in
-    let else1 = else2 in
-    let at-enum-told = else1 in
-    let at-verdict = at-enum-told in
-    let at-survey = at-verdict in
-    let at-asked = at-survey in
-    let start = at-asked in
-    let a = start.args in
-    let s = a.heap.now in
-    let k = accounts_of a.words.now in
-    let r = at-survey.survey-known in
-    let asked = at-asked.asked in
-    let ok = sym at-verdict.verdict.ensures ∙ at-enum-told.in_default.is in
-    let nothing = place_nothing r.result.holder c.if-place-ge-HOLDS.true in
-    record {
-      holds = released_unheld s k a.quota a.handle asked.result r.result asked.ensures r.ensures
-          ok else1.if-quota-ge-QUOTAS.false (not-false _ else2.if-not-known.false) nothing _ refl;
-      pads = padded_same a.words.now;
-    }
+pub returns-in_default-holder-clause-holds : goal.returns-in_default-holder-clause-holds
+returns-in_default-holder-clause-holds c =
+    let a = c.args in
+    released_unheld a.heap.now (accounts_of a.words.now) a.quota a.handle c.asked.result c.survey.result c.asked.ensures c.survey.ensures
+    c.in_ok-known.known c.in_ok-known.was c.if-quota-ge-QUOTAS.false c.in-Some.block c.in-Some.is c.in_default-holder.is _ refl
 
-pub drop_claim-amount-requires : goal.drop_claim-amount-requires
-drop_claim-amount-requires c =
-    let else3 = c in
-    let else2 = else3 in
-    let else1 = else2 in
-    let at-enum-told = else1 in
-    let at-verdict = at-enum-told in
-    let at-survey = at-verdict in
-    let at-asked = at-survey in
-    let start = at-asked in
-    let a = start.args in
-    let s = a.heap.now in
-    let k = accounts_of a.words.now in
-    let r = at-survey.survey-known in
-    let asked = at-asked.asked in
-    let ok = sym at-verdict.verdict.ensures ∙ at-enum-told.in_default.is in
-    let i = r.result.holder in
-    released_droppable s k a.quota a.handle asked.result r.result asked.ensures r.ensures
-    ok else1.if-quota-ge-QUOTAS.false (not-false _ else2.if-not-known.false) i (place_at i (omega (arith, else3.if-place-ge-HOLDS.false)))
+pub drop_claim-requires : goal.drop_claim-requires
+drop_claim-requires c =
+    let a = c.args in
+    rw c.is_some-shared.ensures
+    (released_droppable a.heap.now (accounts_of a.words.now) a.quota a.handle c.asked.result c.survey.result c.asked.ensures c.survey.ensures
+    c.in_ok-known.known c.in_ok-known.was c.if-quota-ge-QUOTAS.false c.in-Some.block c.in-Some.is c.in-Some-holder.place c.in-Some-holder.is)
 
-pub returns : goal.returns
-returns c =
-    let at-drop-claim = c in
-    let else3 = at-drop-claim in
-    let else2 = else3 in
-    let else1 = else2 in
-    let at-enum-told = else1 in
-    let at-verdict = at-enum-told in
-    let at-survey = at-verdict in
-    let at-asked = at-survey in
-    let start = at-asked in
-    let a = start.args in
-    let s = a.heap.now in
-    let k = accounts_of a.words.now in
-    let r = at-survey.survey-known in
-    let asked = at-asked.asked in
-    let ok = sym at-verdict.verdict.ensures ∙ at-enum-told.in_default.is in
-    let i = r.result.holder in
-    let d = at-drop-claim.drop_claim-amount.ensures in
-    let is = released_is s k a.quota a.handle asked.result r.result asked.ensures r.ensures
-    ok else1.if-quota-ge-QUOTAS.false (not-false _ else2.if-not-known.false) i (place_at i (omega (arith, else3.if-place-ge-HOLDS.false))) in
-    record {
-      holds = d.holds ∙ is;
-      pads = d.pads;
-    }
+pub returns-clause-holds : goal.returns-clause-holds
+returns-clause-holds c =
+    let a = c.args in
+    c.drop_claim.ensures.holds
+    ∙ released_is a.heap.now (accounts_of a.words.now) a.quota a.handle c.asked.result c.survey.result c.asked.ensures c.survey.ensures
+    c.in_ok-known.known c.in_ok-known.was c.if-quota-ge-QUOTAS.false c.in-Some.block c.in-Some.is c.in-Some-holder.place c.in-Some-holder.is

@@ -1,23 +1,21 @@
 -- Two images that are not compared, and the step of two that are (`Compared`).
 use mathlib.Core.Path.{ap, sym, ◌∙◌}
-use Rattle.comparison.specs.Compare.{paired, stepped}
+use Rattle.std.proofs.lemmas.Result.{err_from_is_err_and}
+use Rattle.comparison.specs.Compare.{paired, stepped, advanced}
 use Rattle.comparison.proofs.Compared.{advanced_step, advanced_refused}
 use Rattle.comparison.proofs.comparing.next_difference.Goals as goal
 
-pub returns-in-Comparable : goal.returns-in-Comparable
-returns-in-Comparable c =
-    let f = c in
-    let s = f in
-    let p = s in
-    let a = p.args in
-    let e = sym (ap paired s.in-Comparable.is) ∙ p.pair_of.ensures in
-    c.answer_of.ensures ∙ ap stepped f.step_from.ensures
-    ∙ advanced_step a.first.now a.second.now e a.from
+pub returns-in_err-pair_of : goal.returns-in_err-pair_of
+returns-in_err-pair_of c =
+    let a = c.args in
+    let p = err_from_is_err_and c.from_residual.result c.from_residual.ensures.1 in
+    let w = c.in_err-pair_of in
+    let e = sym (ap paired w.was) ∙ c.pair_of.ensures in
+    rw (p.1, p.2) (advanced_refused a.first.now a.second.now w.field-0.0.0 w.field-0.0.1 e a.from)
 
-pub returns-in-Refused : goal.returns-in-Refused
-returns-in-Refused c =
-    let s = c in
-    let p = s in
-    let a = p.args in
-    let e = sym (ap paired s.in-Refused.is) ∙ p.pair_of.ensures in
-    advanced_refused a.first.now a.second.now s.in-Refused.refusal s.in-Refused.which e a.from
+pub returns : goal.returns
+unfolding advanced
+returns c =
+    let a = c.args in
+    let e = sym (ap paired c.in_ok-pair_of.was) ∙ c.pair_of.ensures in
+    ap stepped c.step_from.ensures ∙ advanced_step a.first.now a.second.now e a.from

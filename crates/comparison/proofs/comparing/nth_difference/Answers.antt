@@ -1,49 +1,59 @@
-use mathlib.Core.Path.{refl, ap, sym, ◌∙◌}
-use lib.ListN.{get_elem?}
-use Rattle.comparison.specs.Differences.{state_in}
+-- Each step passes the first difference from a position on; the one behind the loop is what was asked for (`Compared`).
+use Rattle.std.specs.Prelude.{slice_get}
+use mathlib.Core.Path.{◌≡◌, ap, sym, ◌∙◌}
+use native.Mathlib.Omega.{arith}
+use Prim.Native.Nat.{◌+◌, ◌-◌}
+use Rattle.comparison.specs.Differences.{state_in, differences}
 use Rattle.comparison.specs.Positions.{differences_from}
 use Rattle.comparison.proofs.Positions.{next_nothing, next_first, next_later}
 use Rattle.comparison.proofs.Compared.{none_given, one_given}
 use Rattle.comparison.proofs.comparing.nth_difference.Goals as goal
 
-pub loop-difference-init : goal.loop-difference-init
+pub loop-i-init : goal.loop-i-init
 unfolding differences_from
-loop-difference-init c = refl
+loop-i-init c =
+    let a = c.args in
+    let z : a.n - 0 ≡ a.n = omega arith in
+    ap (slice_get (differences (state_in a.first.now) (state_in a.second.now))) z
 
-pub returns-in_default : goal.returns-in_default
-returns-in_default c =
-    let d = c in
-    let l = d in
-    let a = l.args in
-    none_given a.first.now a.second.now a.n
-    (sym l.loop-difference.invariant
-    ∙ next_nothing (state_in a.first.now) (state_in a.second.now) l.loop-difference.from
-    (sym d.step_from.ensures ∙ c.in_default.is) l.loop-difference.left)
+pub returns-in_err-behind : goal.returns-in_err-behind
+returns-in_err-behind c =
+    let a = c.args in
+    let l = c.loop-i in
+    rw c.from_residual.ensures
+    (none_given a.first.now a.second.now a.n
+    (sym l.invariant
+    ∙ next_nothing (state_in a.first.now) (state_in a.second.now) l.from (sym c.step_from.ensures ∙ c.in_err-behind.was) (a.n - l.i)))
 
-pub returns-then-left-eq0 : goal.returns-then-left-eq0
-returns-then-left-eq0 c =
-    let g = c in
-    let d = g in
-    let l = d in
-    let a = l.args in
+pub loop-i-preserved : goal.loop-i-preserved
+loop-i-preserved c =
+    let a = c.args in
+    let l = c.loop-i in
+    let w = c.in_ok-behind in
     let s = state_in a.first.now in
     let t = state_in a.second.now in
-    one_given a.first.now a.second.now a.n g.in-Differs.difference
-    (sym l.loop-difference.invariant
-    ∙ ap (get_elem? (differences_from l.loop-difference.from s t)) c.if-left-eq0.true
-    ∙ next_first s t l.loop-difference.from g.in-Differs.behind g.in-Differs.difference
-    (sym d.step_from.ensures ∙ g.in-Differs.is))
+    let z : a.n - (l.i + 1) ≡ a.n - l.i - 1 = omega arith in
+    ap (slice_get (differences_from w.behind s t)) z
+    ∙ sym (next_later s t l.from w.behind w.field-0-0 (sym c.step_from.ensures ∙ w.was) (a.n - l.i) (λ e. omega arith))
+    ∙ l.invariant
 
-pub loop-difference-preserved : goal.loop-difference-preserved
-loop-difference-preserved c =
-    let g = c in
-    let d = g in
-    let l = d in
-    let a = l.args in
+pub returns-in_err-difference : goal.returns-in_err-difference
+returns-in_err-difference c =
+    let a = c.args in
+    let l = c.loop-i in
+    rw c.from_residual-in_err-difference.ensures
+    (none_given a.first.now a.second.now a.n
+    (sym l.invariant
+    ∙ next_nothing (state_in a.first.now) (state_in a.second.now) l.from (sym c.step_from-2.ensures ∙ c.in_err-difference.was) (a.n - l.i)))
+
+pub returns : goal.returns
+returns c =
+    let a = c.args in
+    let l = c.loop-i in
+    let w = c.in_ok-difference in
     let s = state_in a.first.now in
     let t = state_in a.second.now in
-    sym
-    (next_later s t l.loop-difference.from g.in-Differs.behind g.in-Differs.difference
-    (sym d.step_from.ensures ∙ g.in-Differs.is) l.loop-difference.left
-    c.if-left-eq0.false)
-    ∙ l.loop-difference.invariant
+    let z : a.n - l.i ≡ 0 = omega arith in
+    one_given a.first.now a.second.now a.n w.difference
+    (sym l.invariant ∙ ap (slice_get (differences_from l.from s t)) z
+    ∙ next_first s t l.from w.field-0-1 w.difference (sym c.step_from-2.ensures ∙ w.was))

@@ -1,14 +1,13 @@
--- The loop's invariant: what is still to be passed from the position on leads to the difference that was asked for. The measure is how many are to
--- be passed.
+-- The loop's invariant: what is still to be passed from the position on leads to the difference that was asked for.
+use Rattle.std.specs.Prelude.{slice_get}
 use mathlib.Core.Path.{◌≡◌}
-use lib.ListN.{get_elem?}
+use Prim.Native.Nat.{◌-◌}
 use Rattle.comparison.specs.Differences.{state_in, differences}
 use Rattle.comparison.specs.Positions.{differences_from}
 use Rattle.comparison.proofs.comparing.nth_difference.Given as goal
 
-abbrev pub invariant-loop-difference : goal.invariant-loop-difference
-invariant-loop-difference l =
-    get_elem? (differences_from l.from (state_in l.first) (state_in l.second)) l.left ≡ get_elem? (differences (state_in l.first) (state_in l.second)) l.n
-
-abbrev pub decreases-loop-difference : goal.decreases-loop-difference
-decreases-loop-difference l = l.left
+abbrev pub invariant-loop-i : goal.invariant-loop-i
+invariant-loop-i l =
+    let s = state_in l.first in
+    let t = state_in l.second in
+    slice_get (differences_from l.from s t) (l.n - l.i) ≡ slice_get (differences s t) l.n

@@ -1,33 +1,16 @@
-use native.Mathlib.Omega.{arith}
-use mathlib.Core.Path.{◌≡◌, sym, ◌∙◌}
-use borrow.Author.Tests.{not-true, not-false}
-use lib.ListN.{length}
-use Rattle.accounts.specs.Accounts.{HOLDS, zero_hold}
-use Rattle.comparison.specs.Differences.{same_record, record_part}
-use Rattle.comparison.specs.declared.Difference.TheVariants.{Record as RecordAt}
-use Rattle.comparison.proofs.Items.{from_pass}
+-- The search over the places gives the first that is not the same.
+use Rattle.std.proofs.Common.{◌≡◌, ℕ, Bool, true, false, get_or, arith, rules, tests}
+use Rattle.std.proofs.lemmas.Iterator.{first_from_Range}
+use Rattle.std.proofs.lemmas.List.{get_or_read}
+use Rattle.accounts.specs.Accounts.{zero_hold}
+use Rattle.comparison.specs.Differences.{same_record}
 use Rattle.comparison.proofs.finding.find_record.Goals as goal
-use Rattle.comparison.proofs.finding.find_record.Goals.{Start}
-
--- both tables have their length
-long : (c : Start) → length c.args.first ≡ HOLDS
-long c = c.well_formed.0.1.0.1
-
-long_2 : (c : Start) → length c.args.second ≡ HOLDS
-long_2 c = c.well_formed.1.0.1.0.1
-
-pub returns-then-not-is_same_record : goal.returns-then-not-is_same_record
-returns-then-not-is_same_record c = let l = c in (l.loop-p.invariant, λ h. sym c.is_same_record.ensures ∙ not-true _ c.if-not-is_same_record.true-raw)
-
-pub loop-p-preserved : goal.loop-p-preserved
-unfolding record_part
-loop-p-preserved c =
-    let l = c in
-    let s = l in
-    l.loop-p.invariant
-    ∙ from_pass same_record RecordAt zero_hold s.args.first s.args.second l.loop-p.p
-    (omega (arith, long (goal.at.loop-p-preserved c).Start, long_2 (goal.at.loop-p-preserved c).Start))
-    (sym c.is_same_record.ensures ∙ not-false _ c.if-not-is_same_record.false-raw)
 
 pub returns : goal.returns
-returns c = (c.loop-p.invariant, λ h. absurd (omega arith))
+unfolding same_record
+returns c =
+    let a = c.args in
+    let test : ℕ → Bool = λ k. same_record (get_or a.first k zero_hold) (get_or a.second k zero_hold) in
+    first_from_Range _ _ _ c.find.result (λ k. test k ≡ false) (λ k. test k ≡ true) c.find.ensures.ran
+    (λ x q h. grind (arith, tests, get_or_read))
+    (λ x q h. (search rules, grind (arith, tests, get_or_read)))

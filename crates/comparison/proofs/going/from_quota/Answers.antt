@@ -1,25 +1,18 @@
 -- The search finds the first that is not the same, or passes them all (`Found`).
 use mathlib.Core.Path.{◌∙◌}
+use Rattle.std.proofs.lemmas.Option.{MatchOption-at_none, MatchOption-at_some}
 use Rattle.comparison.proofs.Found.{quota_found, quotas_none}
 use Rattle.comparison.proofs.going.from_quota.Goals as goal
 
-pub returns-then-q-lt-QUOTAS : goal.returns-then-q-lt-QUOTAS
-returns-then-q-lt-QUOTAS c =
-    let f = c in
-    let t = f in
-    let o = t in
-    let a = o.args in
-    quota_found a.first.now a.second.now o.accounts_in-one.result t.accounts_in-two.result o.accounts_in-one.ensures
-    t.accounts_in-two.ensures a.number f.find_quota-q.result f.find_quota-q.ensures.0
-    c.if-q-lt-QUOTAS.true (f.find_quota-q.ensures.1 c.if-q-lt-QUOTAS.true)
+pub returns-in_default : goal.returns-in_default
+returns-in_default c =
+    let a = c.args in
+    c.from_record.ensures
+    ∙ quotas_none a.first.now a.second.now c.accounts_in-one.result c.accounts_in-two.result c.accounts_in-one.ensures
+    c.accounts_in-two.ensures a.number (MatchOption-at_none _ _ c.in_default.is c.find_quota.ensures)
 
 pub returns : goal.returns
 returns c =
-    let f = c in
-    let t = f in
-    let o = t in
-    let a = o.args in
-    c.from_record.ensures
-    ∙ quotas_none a.first.now a.second.now o.accounts_in-one.result t.accounts_in-two.result o.accounts_in-one.ensures
-    t.accounts_in-two.ensures a.number f.find_quota-q.result f.find_quota-q.ensures.0
-    c.if-q-lt-QUOTAS.false
+    let a = c.args in
+    quota_found a.first.now a.second.now c.accounts_in-one.result c.accounts_in-two.result c.accounts_in-one.ensures
+    c.accounts_in-two.ensures a.number c.in-Some.q (MatchOption-at_some _ _ c.in-Some.q c.in-Some.is c.find_quota.ensures)

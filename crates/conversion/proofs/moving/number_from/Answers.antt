@@ -3,10 +3,10 @@ use borrow.Author.Rules.{rules}
 use Rattle.image_model.specs.Stream.{form_1, form_2}
 use Rattle.conversion.proofs.moving.number_from.Goals as goal
 
-pub returns-then-up : goal.returns-then-up
+pub returns-in-Up : goal.returns-in-Up
 unfolding form_1
-returns-then-up c = search rules
+returns-in-Up c = search rules
 
-pub returns : goal.returns
+pub returns-in-Down : goal.returns-in-Down
 unfolding form_2
-returns c = search rules
+returns-in-Down c = search rules

@@ -43,5 +43,5 @@ returns c =
     let a = r.args in
     r.rewrite_in.ensures
     ∙ ap
-    (λ (n : ℕ). rewritten (form_to a.up) a.out.now (padded n (drop (head_length (form_of a.image.now)) (stream_of a.image.now))) a.accounts)
+    (λ (n : ℕ). rewritten (form_to a.way) a.out.now (padded n (drop (head_length (form_of a.image.now)) (stream_of a.image.now))) a.accounts)
     (sym (sized (goal.at.returns c).After-room-1))

@@ -36,10 +36,10 @@ returns-in_default c =
     let w = c in
     let p = w in
     let a = p.args in
-    rewrite_written (form_to a.up) a.out.now w.write_to-answer.new.out p.copy_stream.new.out a.accounts w.write_to-answer.result
+    rewrite_written (form_to a.way) a.out.now w.write_to-answer.new.out p.copy_stream.new.out a.accounts w.write_to-answer.result
     (extent (goal.at.returns-in_default c).After-copy_stream)
     w.write_to-answer.ensures c.in_default.field-0 c.in_default.is
-    ∙ ap (λ (s : List ℕ). rewritten (form_to a.up) a.out.now s a.accounts) (copied (goal.at.returns-in_default c).After-copy_stream)
+    ∙ ap (λ (s : List ℕ). rewritten (form_to a.way) a.out.now s a.accounts) (copied (goal.at.returns-in_default c).After-copy_stream)
 
 pub returns-then-number-eq2 : goal.returns-then-number-eq2
 returns-then-number-eq2 c =
@@ -48,10 +48,10 @@ returns-then-number-eq2 c =
     let w = g in
     let p = w in
     let a = p.args in
-    rewrite_unsound (form_to a.up) a.out.now w.write_to-answer.new.out p.copy_stream.new.out a.accounts w.write_to-answer.result
+    rewrite_unsound (form_to a.way) a.out.now w.write_to-answer.new.out p.copy_stream.new.out a.accounts w.write_to-answer.result
     (extent (goal.at.returns-then-number-eq2 c).After-copy_stream)
-    w.write_to-answer.ensures g.in-Refused.refusal g.in-Refused.is (sym n.number.ensures ∙ c.if-number-eq2.true)
-    ∙ ap (λ (s : List ℕ). rewritten (form_to a.up) a.out.now s a.accounts) (copied (goal.at.returns-then-number-eq2 c).After-copy_stream)
+    w.write_to-answer.ensures g.in-Err.refusal g.in-Err.is (sym n.number.ensures ∙ c.if-number-eq2.true)
+    ∙ ap (λ (s : List ℕ). rewritten (form_to a.way) a.out.now s a.accounts) (copied (goal.at.returns-then-number-eq2 c).After-copy_stream)
 
 pub returns : goal.returns
 returns c =
@@ -60,7 +60,7 @@ returns c =
     let w = g in
     let p = w in
     let a = p.args in
-    rewrite_refused (form_to a.up) a.out.now w.write_to-answer.new.out p.copy_stream.new.out a.accounts w.write_to-answer.result
+    rewrite_refused (form_to a.way) a.out.now w.write_to-answer.new.out p.copy_stream.new.out a.accounts w.write_to-answer.result
     (extent (goal.at.returns c).After-copy_stream)
-    w.write_to-answer.ensures g.in-Refused.refusal g.in-Refused.is (λ e. c.if-number-eq2.false (n.number.ensures ∙ e))
-    ∙ ap (λ (s : List ℕ). rewritten (form_to a.up) a.out.now s a.accounts) (copied (goal.at.returns c).After-copy_stream)
+    w.write_to-answer.ensures g.in-Err.refusal g.in-Err.is (λ e. c.if-number-eq2.false (n.number.ensures ∙ e))
+    ∙ ap (λ (s : List ℕ). rewritten (form_to a.way) a.out.now s a.accounts) (copied (goal.at.returns c).After-copy_stream)

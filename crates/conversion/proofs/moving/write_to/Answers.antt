@@ -1,20 +1,16 @@
 -- Form 2 is written up, form 1 down.
 use mathlib.Core.Path.{ap, sym, ◌∙◌}
-use mathlib.Core.Bool.{Bool}
 use Rattle.image_model.specs.Images.{write_image}
+use Rattle.conversion.specs.declared.Direction.{Direction}
 use Rattle.conversion.specs.Steps.{form_to}
 use Rattle.conversion.proofs.moving.write_to.Goals as goal
 
-pub returns-then-up : goal.returns-then-up
-returns-then-up c =
-    let w = c in
-    let t = w in
-    let a = t.args in
-    w.write_image.ensures ∙ ap (λ (b : Bool). write_image (form_to b) a.out.now a.heap.now a.accounts) (sym t.if-up.true)
+pub returns-in-Up : goal.returns-in-Up
+returns-in-Up c =
+    let a = c.args in
+    c.write_image.ensures ∙ ap (λ (w : Direction). write_image (form_to w) a.out.now a.heap.now a.accounts) (sym c.in-Up.is)
 
-pub returns : goal.returns
-returns c =
-    let w = c in
-    let t = w in
-    let a = t.args in
-    w.write_form_1.ensures ∙ ap (λ (b : Bool). write_image (form_to b) a.out.now a.heap.now a.accounts) (sym t.if-up.false)
+pub returns-in-Down : goal.returns-in-Down
+returns-in-Down c =
+    let a = c.args in
+    c.write_form_1.ensures ∙ ap (λ (w : Direction). write_image (form_to w) a.out.now a.heap.now a.accounts) (sym c.in-Down.is)

@@ -1,25 +1,32 @@
 -- The numbers of the answer's case.
-use mathlib.Core.Path.{ap, sym, ◌∙◌}
-use Rattle.comparison.specs.declared.CompareAnswer.{CompareAnswer}
+use mathlib.Core.Path.{◌≡◌, ap, sym, ◌∙◌}
+use borrow.Author.Rules.{rules}
+use Rattle.std.specs.Prelude.{Option, Result, Ok, Some, None}
+use Rattle.image_model.specs.declared.ImageRefusal.{ImageRefusal}
+use Rattle.comparison.specs.declared.Difference.{Difference}
+use Rattle.comparison.specs.declared.Which.{Which}
 use Rattle.comparison.specs.Compare.{compared}
 use Rattle.exports.specs.ComparisonReplies.{compare_reply}
 use Rattle.exports.proofs.comparisons.reply_of_compare.Goals as goal
 
-pub returns-in-Differs : goal.returns-in-Differs
+pub returns-in-Ok-Some : goal.returns-in-Ok-Some
 unfolding compared
-returns-in-Differs c =
+returns-in-Ok-Some c =
+    let e : c.args.answer ≡ Ok (Some c.in-Ok-Some.difference) = search rules in
     let p = c in
     let k = p in
     (λ i. record { refusal = 0; which = 0; kind = k.kind_of.ensures i; place = p.place_of.ensures i; length = c.length_of.ensures i })
-    ∙ ap (λ (x : CompareAnswer). compare_reply (compared x)) (sym k.in-Differs.is)
+    ∙ ap (λ (x : Result (Option Difference) (ImageRefusal × Which)). compare_reply (compared x)) (sym e)
 
-pub returns-in-Nothing : goal.returns-in-Nothing
+pub returns-in-Ok-None : goal.returns-in-Ok-None
 unfolding compared
-returns-in-Nothing c = ap (λ (x : CompareAnswer). compare_reply (compared x)) (sym c.in-Nothing.is)
+returns-in-Ok-None c =
+    let e : c.args.answer ≡ Ok None = search rules in
+    ap (λ (x : Result (Option Difference) (ImageRefusal × Which)). compare_reply (compared x)) (sym e)
 
-pub returns-in-Refused : goal.returns-in-Refused
+pub returns-in-Err : goal.returns-in-Err
 unfolding compared
-returns-in-Refused c =
+returns-in-Err c =
     let n = c in
     (λ i. record { refusal = n.number.ensures i; which = c.number_of_which.ensures i; kind = 0; place = 0; length = 0 })
-    ∙ ap (λ (x : CompareAnswer). compare_reply (compared x)) (sym n.in-Refused.is)
+    ∙ ap (λ (x : Result (Option Difference) (ImageRefusal × Which)). compare_reply (compared x)) (sym n.in-Err.is)

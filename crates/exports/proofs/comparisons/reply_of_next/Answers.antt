@@ -1,13 +1,19 @@
 -- The numbers of the answer's case.
-use mathlib.Core.Path.{ap, sym, ◌∙◌}
-use Rattle.comparison.specs.declared.NextAnswer.{NextAnswer}
+use mathlib.Core.Path.{◌≡◌, ap, sym, ◌∙◌}
+use borrow.Author.Rules.{rules}
+use Rattle.std.specs.Prelude.{Option, Result, Ok, Some, None}
+use Rattle.image_model.specs.declared.ImageRefusal.{ImageRefusal}
+use Rattle.comparison.specs.declared.Difference.{Difference}
+use Rattle.comparison.specs.declared.Position.{Position}
+use Rattle.comparison.specs.declared.Which.{Which}
 use Rattle.comparison.specs.Compare.{stepped, advanced}
 use Rattle.exports.specs.ComparisonReplies.{next_reply}
 use Rattle.exports.proofs.comparisons.reply_of_next.Goals as goal
 
-pub returns-in-Differs : goal.returns-in-Differs
+pub returns-in-Ok-Some : goal.returns-in-Ok-Some
 unfolding advanced stepped
-returns-in-Differs c =
+returns-in-Ok-Some c =
+    let e : c.args.answer ≡ Ok (Some (c.in-Ok-Some.difference, c.in-Ok-Some.behind)) = search rules in
     let q = c in
     let n = q in
     let p = n in
@@ -22,15 +28,17 @@ returns-in-Differs c =
       part = q.part_of.ensures i;
       at = c.place_in.ensures i;
     })
-    ∙ ap (λ (x : NextAnswer). next_reply (advanced x)) (sym k.in-Differs.is)
+    ∙ ap (λ (x : Result (Option (Difference × Position)) (ImageRefusal × Which)). next_reply (advanced x)) (sym e)
 
-pub returns-in-Nothing : goal.returns-in-Nothing
+pub returns-in-Ok-None : goal.returns-in-Ok-None
 unfolding advanced stepped
-returns-in-Nothing c = ap (λ (x : NextAnswer). next_reply (advanced x)) (sym c.in-Nothing.is)
+returns-in-Ok-None c =
+    let e : c.args.answer ≡ Ok None = search rules in
+    ap (λ (x : Result (Option (Difference × Position)) (ImageRefusal × Which)). next_reply (advanced x)) (sym e)
 
-pub returns-in-Refused : goal.returns-in-Refused
+pub returns-in-Err : goal.returns-in-Err
 unfolding advanced
-returns-in-Refused c =
+returns-in-Err c =
     let n = c in
     (λ i.
     record {
@@ -42,4 +50,4 @@ returns-in-Refused c =
       part = 0;
       at = 0;
     })
-    ∙ ap (λ (x : NextAnswer). next_reply (advanced x)) (sym n.in-Refused.is)
+    ∙ ap (λ (x : Result (Option (Difference × Position)) (ImageRefusal × Which)). next_reply (advanced x)) (sym n.in-Err.is)

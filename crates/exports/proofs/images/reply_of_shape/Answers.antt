@@ -4,21 +4,24 @@ use Rattle.accounts.specs.declared.Accounts.{Accounts}
 use Rattle.image_model.specs.Stream.{form_1}
 use Rattle.image_model.specs.Answers.{image_refusal_number}
 use Rattle.image_model.proofs.Answers.{image_refusal_is}
-use Rattle.image.specs.declared.Shape.{Shape}
+use Prim.Native.Nat.{ℕ}
+use Rattle.std.specs.Prelude.{Result}
+use Rattle.image_model.specs.declared.Form.{Form}
+use Rattle.image_model.specs.declared.ImageRefusal.{ImageRefusal}
 use Rattle.image.specs.Parsing.{shape_parts}
 use Rattle.exports.specs.ImageReplies.{numbers_unless, examine_reply}
 use Rattle.exports.proofs.ImageReplies.{numbers_refused}
 use Rattle.exports.proofs.images.reply_of_shape.Goals as goal
 
-pub returns-in-Image : goal.returns-in-Image
+pub returns-in-Ok : goal.returns-in-Ok
 unfolding shape_parts numbers_unless
-returns-in-Image c = λ (k : Accounts). ap (λ (x : Shape). examine_reply (shape_parts x k)) (sym c.in-Image.is)
+returns-in-Ok c = λ (k : Accounts). ap (λ (x : Result (Form × ℕ) ImageRefusal). examine_reply (shape_parts x k)) (sym c.in-Ok.is)
 
-pub returns-in-Refused : goal.returns-in-Refused
+pub returns-in-Err : goal.returns-in-Err
 unfolding shape_parts
-returns-in-Refused c = λ (k : Accounts).
+returns-in-Err c = λ (k : Accounts).
     let s = c in
-    let r = s.in-Refused.refusal in
+    let r = s.in-Err.refusal in
     (λ i. record { refusal = c.number.ensures i; form = 0; heap_length = 0 })
     ∙ numbers_refused (image_refusal_number r) form_1.number 0 (image_refusal_is r).1
-    ∙ ap (λ (x : Shape). examine_reply (shape_parts x k)) (sym s.in-Refused.is)
+    ∙ ap (λ (x : Result (Form × ℕ) ImageRefusal). examine_reply (shape_parts x k)) (sym s.in-Err.is)

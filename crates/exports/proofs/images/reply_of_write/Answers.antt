@@ -3,10 +3,10 @@ use mathlib.Core.Path.{ap, sym, ◌∙◌}
 use Rattle.image_model.specs.Answers.{imaged}
 use Rattle.exports.proofs.images.reply_of_write.Goals as goal
 
-pub returns-in-Written : goal.returns-in-Written
+pub returns-in-Ok : goal.returns-in-Ok
 unfolding imaged
-returns-in-Written c o = ap (imaged o) (sym c.in-Written.is)
+returns-in-Ok c o = ap (imaged o) (sym c.in-Ok.is)
 
-pub returns-in-Refused : goal.returns-in-Refused
+pub returns-in-Err : goal.returns-in-Err
 unfolding imaged
-returns-in-Refused c o = (λ i. record { image = o; refusal = c.number.ensures i; length = 0 }) ∙ ap (imaged o) (sym c.in-Refused.is)
+returns-in-Err c o = (λ i. record { image = o; refusal = c.number.ensures i; length = 0 }) ∙ ap (imaged o) (sym c.in-Err.is)

@@ -1,5 +1,5 @@
 -- The reply is that of the answer that the replay gives, and the output is the replay's (`replied`).
-use Rattle.replay_text.specs.declared.Replayed.TheVariants.{Written, TooShort}
+use Rattle.std.specs.Prelude.{Some, None}
 use Rattle.exports.specs.ReplayReplies.{reply_of}
 use Rattle.exports.proofs.ReplayReplies.{replied}
 use Rattle.exports.proofs.replays.lokhazim_replay.Goals as goal
@@ -9,7 +9,7 @@ unfolding reply_of
 returns-in_default c =
     let r = c in
     let a = r.args in
-    let both = replied a.input.now a.output.now r.replay.new.output _ TooShort c.in_default.is r.replay.ensures in record {
+    let both = replied a.input.now a.output.now r.replay.new.output _ None c.in_default.is r.replay.ensures in record {
       replies = both.0;
       prints = both.1;
     }
@@ -20,7 +20,7 @@ returns c =
     let k = c in
     let r = k in
     let a = r.args in
-    let both = replied a.input.now a.output.now r.replay.new.output _ (Written k.in-Written.count) k.in-Written.is r.replay.ensures in record {
+    let both = replied a.input.now a.output.now r.replay.new.output _ (Some k.in-Some.count) k.in-Some.is r.replay.ensures in record {
       replies = both.0;
       prints = both.1;
     }

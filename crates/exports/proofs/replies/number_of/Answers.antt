@@ -3,10 +3,10 @@ use mathlib.Core.Path.{ap, sym, ◌∙◌}
 use Rattle.model.specs.Answers.{refused, verdict_values}
 use Rattle.exports.proofs.replies.number_of.Goals as goal
 
-pub returns-in-Accepted : goal.returns-in-Accepted
+pub returns-in-Ok : goal.returns-in-Ok
 unfolding verdict_values
-returns-in-Accepted c = sym (ap verdict_values c.in-Accepted.is)
+returns-in-Ok c = sym (ap verdict_values c.in-Ok.is)
 
-pub returns-in-Refused : goal.returns-in-Refused
+pub returns-in-Err : goal.returns-in-Err
 unfolding verdict_values
-returns-in-Refused c = ap refused c.number.ensures ∙ sym (ap verdict_values c.in-Refused.is)
+returns-in-Err c = ap refused c.number.ensures ∙ sym (ap verdict_values c.in-Err.is)

@@ -3,10 +3,10 @@ use mathlib.Core.Path.{ap, sym, ◌∙◌}
 use Rattle.model.specs.Answers.{refused, amount_values}
 use Rattle.exports.proofs.replies.reply_of_amount.Goals as goal
 
-pub returns-in-Amount : goal.returns-in-Amount
+pub returns-in-Ok : goal.returns-in-Ok
 unfolding amount_values
-returns-in-Amount c = sym (ap amount_values c.in-Amount.is)
+returns-in-Ok c = sym (ap amount_values c.in-Ok.is)
 
-pub returns-in-Refused : goal.returns-in-Refused
+pub returns-in-Err : goal.returns-in-Err
 unfolding amount_values
-returns-in-Refused c = ap refused c.number.ensures ∙ sym (ap amount_values c.in-Refused.is)
+returns-in-Err c = ap refused c.number.ensures ∙ sym (ap amount_values c.in-Err.is)

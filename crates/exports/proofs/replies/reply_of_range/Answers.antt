@@ -3,10 +3,10 @@ use mathlib.Core.Path.{ap, sym, ◌∙◌}
 use Rattle.model.specs.Answers.{refused, range_values}
 use Rattle.exports.proofs.replies.reply_of_range.Goals as goal
 
-pub returns-in-Lent : goal.returns-in-Lent
+pub returns-in-Ok : goal.returns-in-Ok
 unfolding range_values
-returns-in-Lent c = sym (ap range_values c.in-Lent.is)
+returns-in-Ok c = sym (ap range_values c.in-Ok.is)
 
-pub returns-in-Refused : goal.returns-in-Refused
+pub returns-in-Err : goal.returns-in-Err
 unfolding range_values
-returns-in-Refused c = ap refused c.number.ensures ∙ sym (ap range_values c.in-Refused.is)
+returns-in-Err c = ap refused c.number.ensures ∙ sym (ap range_values c.in-Err.is)

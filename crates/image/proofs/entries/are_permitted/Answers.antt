@@ -1,5 +1,4 @@
 use native.Mathlib.Omega.{arith}
-use borrow.Author.Rules.{rules}
 use borrow.Author.Count.{below_none, below_more}
 use borrow.Author.Tests.{eq-eqb, ne_eqb}
 use mathlib.Core.Path.{ap, sym, ◌∙◌}
@@ -11,7 +10,7 @@ use Rattle.image_model.specs.Stream.{all_permitted}
 use Rattle.image.proofs.entries.are_permitted.Goals as goal
 
 pub loop-i-init : goal.loop-i-init
-loop-i-init c = (search rules, below_none _)
+loop-i-init c = below_none _
 
 pub returns-then-quota-ne-ALL_PERMISSIONS : goal.returns-then-quota-ne-ALL_PERMISSIONS
 returns-then-quota-ne-ALL_PERMISSIONS c =
@@ -25,10 +24,10 @@ pub loop-i-preserved : goal.loop-i-preserved
 loop-i-preserved c =
     let q = c in
     let l = q in
-    (search rules, below_more _ _ l.loop-i.invariant.1 (ap all_permitted (sym q.quota_at-quota.ensures) ∙ eq-eqb _ _ c.if-quota-ne-ALL_PERMISSIONS.false))
+    below_more _ _ l.loop-i.invariant (ap all_permitted (sym q.quota_at-quota.ensures) ∙ eq-eqb _ _ c.if-quota-ne-ALL_PERMISSIONS.false)
 
 pub returns : goal.returns
 returns c =
     let l = c in
     let words = l.args.words.now in
-    sym (all_places all_permitted zero_quota (quotas_of words) (λ j h. l.loop-i.invariant.1 j (omega (arith, quotas_long words))))
+    sym (all_places all_permitted zero_quota (quotas_of words) (λ j h. l.loop-i.invariant j (omega (arith, quotas_long words))))

@@ -3,24 +3,23 @@ use mathlib.Core.Path.{sym, ◌∙◌}
 use lib.ListN.{drop}
 use borrow.Author.Tests.{not-true, not-false}
 use Rattle.framing.specs.Frames.{stream_of}
-use Rattle.image_model.specs.declared.Form.{Form}
 use Rattle.image_model.specs.Stream.{entries_at, entry_width}
 use Rattle.image_model.specs.Reading.{entry_right}
 use Rattle.image.proofs.Items.{every_all, every_none, every_stops, every_goes_on, every_passes}
 use Rattle.image.proofs.Decoding.{tail_here, entries_pass}
 use Rattle.image.proofs.entries.entries_right.Goals as goal
 
-pub returns-then-not-full : goal.returns-then-not-full
-returns-then-not-full c =
+pub returns-then-not-form : goal.returns-then-not-form
+returns-then-not-form c =
     let a = c.args in
-    λ (f : Form) e. sym (every_passes (entry_right f) (entry_width f) a.count (drop entries_at (stream_of a.image.now))
-    (entries_pass f (e ∙ not-true _ c.if-not-full.true-raw)))
+    sym (every_passes (entry_right a.form) (entry_width a.form) a.form.quotas (drop entries_at (stream_of a.image.now))
+    (entries_pass a.form (not-true _ c.if-not-form.true)))
 
 pub loop-i-init : goal.loop-i-init
 loop-i-init c =
     let a = c.args in
     let t = stream_of a.image.now in
-    (omega arith, not-false _ c.if-not-full.false-raw, λ (f : Form) e. every_all (entry_right f) (entry_width f) a.count (drop entries_at t))
+    every_all (entry_right a.form) (entry_width a.form) a.form.quotas (drop entries_at t)
 
 pub returns-then-not-are_permissions : goal.returns-then-not-are_permissions
 returns-then-not-are_permissions c =
@@ -28,27 +27,21 @@ returns-then-not-are_permissions c =
     let at = r in
     let a = at.args in
     let t = stream_of a.image.now in
-    λ (f : Form) e. every_stops (entry_right f) (entry_width f) at.loop-i.i a.count (drop entries_at t) (omega arith) (at.loop-i.invariant.2 f e)
-    (tail_here f t at.loop-i.i (e ∙ at.loop-i.invariant.1) ∙ sym r.are_permissions.ensures ∙ not-true _ c.if-not-are_permissions.true-raw)
-
-pub loop-i-smaller : goal.loop-i-smaller
-loop-i-smaller c = omega arith
+    every_stops (entry_right a.form) (entry_width a.form) at.loop-i.i a.form.quotas (drop entries_at t) (omega arith) at.loop-i.invariant
+    (tail_here a.form t at.loop-i.i (not-false _ c.if-not-form.false) ∙ sym r.are_permissions.ensures ∙ not-true _ c.if-not-are_permissions.true-raw)
 
 pub loop-i-preserved : goal.loop-i-preserved
 loop-i-preserved c =
     let r = c in
     let at = r in
     let a = at.args in
-    let t = stream_of a.image.now in (
-      omega arith,
-      at.loop-i.invariant.1,
-      λ (f : Form) e. every_goes_on (entry_right f) (entry_width f) at.loop-i.i a.count (drop entries_at t) (omega arith) (at.loop-i.invariant.2 f e)
-          (tail_here f t at.loop-i.i (e ∙ at.loop-i.invariant.1) ∙ sym r.are_permissions.ensures ∙ not-false _ c.if-not-are_permissions.false-raw),
-    )
+    let t = stream_of a.image.now in
+    every_goes_on (entry_right a.form) (entry_width a.form) at.loop-i.i a.form.quotas (drop entries_at t) (omega arith) at.loop-i.invariant
+    (tail_here a.form t at.loop-i.i (not-false _ c.if-not-form.false) ∙ sym r.are_permissions.ensures ∙ not-false _ c.if-not-are_permissions.false-raw)
 
 pub returns : goal.returns
 returns c =
     let at = c in
     let a = at.args in
-    λ (f : Form) e. every_none (entry_right f) (entry_width f) at.loop-i.i a.count (drop entries_at (stream_of a.image.now)) (omega arith)
-    ∙ at.loop-i.invariant.2 f e
+    every_none (entry_right a.form) (entry_width a.form) at.loop-i.i a.form.quotas (drop entries_at (stream_of a.image.now)) (omega arith)
+    ∙ at.loop-i.invariant

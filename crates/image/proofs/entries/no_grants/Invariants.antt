@@ -1,8 +1,6 @@
--- The invariant: what is found of the quotas from `i` on is found of all from the first one on (`Zeros`). The measure is what is left of the table.
-use Prim.Native.Nat.{◌-◌}
+-- The invariant: what is found of the quotas from `i` on is found of all from the first one on (`Zeros`).
 use mathlib.Core.Path.{◌≡◌}
 use lib.ListN.{drop}
-use Rattle.accounts.specs.Accounts.{QUOTAS}
 use Rattle.words.specs.Words.{quotas_of}
 use Rattle.lists.specs.Lists.{all}
 use Rattle.image_model.specs.Stream.{no_grant}
@@ -10,6 +8,3 @@ use Rattle.image.proofs.entries.no_grants.Given as goal
 
 abbrev pub invariant-loop-i : goal.invariant-loop-i
 invariant-loop-i l = all no_grant (drop l.i (quotas_of l.words)) ≡ all no_grant (drop l.from (quotas_of l.words))
-
-abbrev pub decreases-loop-i : goal.decreases-loop-i
-decreases-loop-i l = QUOTAS - l.i

@@ -1,6 +1,6 @@
 -- The parts are written one behind the other (`head_written`).
 use native.Mathlib.Omega.{arith}
-use mathlib.Core.Path.{refl, ap, ◌∙◌}
+use mathlib.Core.Path.{ap, ◌∙◌}
 use borrow.Author.Rules.{rules}
 use Prim.Native.Nat.{ℕ}
 use mathlib.Core.Bool.{cond}
@@ -52,6 +52,6 @@ returns c =
     (m.marks.ensures.0 ∙ (λ i. cond a.form.full (bytes 1 (e.edition.ensures i) ++ bytes 1 (d.kind.ensures i)) (replicate 2 0)))
     w₂.write_u16-2.ensures w₃.write_u32.ensures
     (w₄.write_u32-2.ensures ∙ (λ i. write_number 4 8 (n.last_serial.ensures i) w₃.write_u32.new.bytes))
-    (w₅.write_entries.ensures a.form refl)
+    (w₅.write_entries.ensures)
     (w₆.write_records.ensures
     ∙ ap (λ (x : ℕ). overwrite x (many record_bytes (take a.form.records k.holds)) w₅.write_entries.new.head) w₆.entry_at.ensures.0)

@@ -7,15 +7,15 @@ use Rattle.layout.specs.Bytes.{bytes}
 use Rattle.image.proofs.Marked.{two_bytes}
 use Rattle.image.proofs.marks.marks.Goals as goal
 
-pub returns-then-not-full : goal.returns-then-not-full
+pub returns-then-not-form : goal.returns-then-not-form
 unfolding bytes
-returns-then-not-full c = (rw (not-true c.args.full c.if-not-full.true-raw), omega arith)
+returns-then-not-form c = (rw (not-true _ c.if-not-form.true), omega arith)
 
 pub returns : goal.returns
 returns c =
     let d = c.wide-2 in
     let e = c.wide in (
       two_bytes e.result d.result e.ensures.1 ∙ (λ i. bytes 1 (e.ensures.0 i) ++ bytes 1 (d.ensures.0 i))
-          ∙ sym (rw (not-false c.args.full c.if-not-full.false-raw)),
+          ∙ sym (rw (not-false _ c.if-not-form.false)),
       omega (arith, e.ensures.1, d.ensures.1),
     )

@@ -3,8 +3,8 @@ use mathlib.Core.Path.{sym, ◌∙◌}
 use borrow.Author.Tests.{not-true, not-false}
 use Rattle.image.proofs.marks.read_edition.Goals as goal
 
-pub returns-then-not-full : goal.returns-then-not-full
-returns-then-not-full c = rw (not-true c.args.full c.if-not-full.true-raw)
+pub returns-then-not-form : goal.returns-then-not-form
+returns-then-not-form c = rw (not-true _ c.if-not-form.true)
 
 pub returns : goal.returns
-returns c = c.stream_at.ensures ∙ sym (rw (not-false c.args.full c.if-not-full.false-raw))
+returns c = c.stream_at.ensures ∙ sym (rw (not-false _ c.if-not-form.false))

@@ -1,6 +1,6 @@
 -- The tests are the definition's, in its order (`Parses`).
 use native.Mathlib.Omega.{arith}
-use mathlib.Core.Path.{refl, ap, sym, ◌∙◌}
+use mathlib.Core.Path.{ap, sym, ◌∙◌}
 use Prim.Native.Nat.{ℕ, ◌+◌}
 use borrow.Author.Tests.{not-true, not-false}
 use Rattle.image_model.specs.Stream.{tail_width}
@@ -58,7 +58,7 @@ returns-then-not-entries_right c =
     wrong_entries a.image.now a.form a.size start.requires.1 start.requires.2 (sym k.is_allowed.ensures ∙ not-false _ h.if-not-is_allowed.false-raw) _
     (ap (λ (n : ℕ). n + a.size) h.heap_at.ensures.0) z.if-image-end.false
     z.zero_from.result z.zero_from.ensures (not-false _ t.if-not-zero_from.false-raw)
-    t.entries_right.result (t.entries_right.ensures a.form refl) (not-true _ c.if-not-entries_right.true-raw)
+    t.entries_right.result (t.entries_right.ensures) (not-true _ c.if-not-entries_right.true-raw)
 
 pub returns : goal.returns
 unfolding tail_width
@@ -72,5 +72,5 @@ returns c =
     by_spares a.image.now a.form a.size start.requires.1 start.requires.2 (sym k.is_allowed.ensures ∙ not-false _ h.if-not-is_allowed.false-raw) _
     (ap (λ (n : ℕ). n + a.size) h.heap_at.ensures.0) z.if-image-end.false
     z.zero_from.result z.zero_from.ensures (not-false _ t.if-not-zero_from.false-raw)
-    t.entries_right.result (t.entries_right.ensures a.form refl) (not-false _ c.if-not-entries_right.false-raw)
+    t.entries_right.result (t.entries_right.ensures) (not-false _ c.if-not-entries_right.false-raw)
     c.spares_right.result c.entry_at.result c.entry_at.ensures.0 c.spares_right.ensures

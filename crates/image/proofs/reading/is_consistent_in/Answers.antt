@@ -32,4 +32,4 @@ returns c =
     let s = k in
     check_consistent (heap (goal.at.returns c).Start) (heap (goal.at.returns c).Start) (accounts_of s.args.words.now) k.check_in_frames.result
     k.check_in_frames.ensures refl
-    c.in-Accepted.is
+    c.in-Ok.is

@@ -18,7 +18,7 @@ returns-then-is_used c =
     let l = h in
     let a = l.args in
     all_stop unused zero_hold (holds_of a.words.now) a.from l.loop-i.i l.loop-i.invariant (omega (arith, holds_long a.words.now))
-    (ap unused (sym h.hold_at-hold.ensures) ∙ ap not (sym u.is_used.ensures ∙ c.if-is_used.true))
+    (ap unused (sym h.hold_at.ensures) ∙ ap not (sym u.is_used.ensures ∙ c.if-is_used.true))
 
 pub loop-i-preserved : goal.loop-i-preserved
 unfolding unused hold_at
@@ -28,7 +28,7 @@ loop-i-preserved c =
     let l = h in
     let a = l.args in
     all_go_on unused zero_hold (holds_of a.words.now) a.from l.loop-i.i l.loop-i.invariant (omega (arith, holds_long a.words.now))
-    (ap unused (sym h.hold_at-hold.ensures) ∙ ap not (sym u.is_used.ensures ∙ c.if-is_used.false))
+    (ap unused (sym h.hold_at.ensures) ∙ ap not (sym u.is_used.ensures ∙ c.if-is_used.false))
 
 pub returns : goal.returns
 returns c =

@@ -9,7 +9,7 @@ use Rattle.image.proofs.Decoding.{spare_wrong, spare_right}
 use Rattle.image.proofs.records.spares_right.Goals as goal
 
 pub loop-i-init : goal.loop-i-init
-loop-i-init c = let a = c.args in (omega arith, every_all record_right record_width a.count (drop a.at (stream_of a.image.now)))
+loop-i-init c = let a = c.args in every_all record_right record_width a.count (drop a.at (stream_of a.image.now))
 
 pub returns-then-read_pair-ne0 : goal.returns-then-read_pair-ne0
 returns-then-read_pair-ne0 c =
@@ -17,25 +17,20 @@ returns-then-read_pair-ne0 c =
     let at = r in
     let a = at.args in
     let t = stream_of a.image.now in
-    every_stops record_right record_width at.loop-i.i a.count (drop a.at t) (omega arith) at.loop-i.invariant.1
+    every_stops record_right record_width at.loop-i.i a.count (drop a.at t) (omega arith) at.loop-i.invariant
     (spare_wrong a.at t at.loop-i.i r.read_pair.result r.read_pair.ensures.0 c.if-read_pair-ne0.true)
-
-pub loop-i-smaller : goal.loop-i-smaller
-loop-i-smaller c = omega arith
 
 pub loop-i-preserved : goal.loop-i-preserved
 loop-i-preserved c =
     let r = c in
     let at = r in
     let a = at.args in
-    let t = stream_of a.image.now in (
-      omega arith,
-      every_goes_on record_right record_width at.loop-i.i a.count (drop a.at t) (omega arith) at.loop-i.invariant.1
-          (spare_right a.at t at.loop-i.i r.read_pair.result r.read_pair.ensures.0 c.if-read_pair-ne0.false),
-    )
+    let t = stream_of a.image.now in
+    every_goes_on record_right record_width at.loop-i.i a.count (drop a.at t) (omega arith) at.loop-i.invariant
+    (spare_right a.at t at.loop-i.i r.read_pair.result r.read_pair.ensures.0 c.if-read_pair-ne0.false)
 
 pub returns : goal.returns
 returns c =
     let at = c in
     let a = at.args in
-    every_none record_right record_width at.loop-i.i a.count (drop a.at (stream_of a.image.now)) (omega arith) ∙ at.loop-i.invariant.1
+    every_none record_right record_width at.loop-i.i a.count (drop a.at (stream_of a.image.now)) (omega arith) ∙ at.loop-i.invariant

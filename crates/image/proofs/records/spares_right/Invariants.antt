@@ -1,6 +1,5 @@
--- The invariant: what is found of the records from `i` on is found of all (`Items`). The measure is what is left of them.
+-- The invariant: what is found of the records from `i` on is found of all (`Items`).
 use mathlib.Core.Path.{◌≡◌}
-use Prim.Native.Nat.{◌-◌, ◌≤◌}
 use lib.ListN.{drop}
 use Rattle.framing.specs.Frames.{stream_of}
 use Rattle.image_model.specs.Items.{every}
@@ -11,8 +10,5 @@ use Rattle.image.proofs.records.spares_right.Given as goal
 
 abbrev pub invariant-loop-i : goal.invariant-loop-i
 invariant-loop-i l =
-    (l.i ≤ l.count) × (every_from record_right record_width l.i l.count (drop l.at (stream_of l.image)) ≡ every record_right record_width l.count
-    (drop l.at (stream_of l.image)))
-
-abbrev pub decreases-loop-i : goal.decreases-loop-i
-decreases-loop-i l = l.count - l.i
+    every_from record_right record_width l.i l.count (drop l.at (stream_of l.image)) ≡ every record_right record_width l.count
+    (drop l.at (stream_of l.image))

@@ -18,16 +18,13 @@ use Rattle.image.proofs.records.write_records.Goals.{At-loop-i}
 len : (c : At-loop-i) → length c.loop-i.head ≡ length c.args.head.now
 len c =
     let a = c.args in
-    ap length c.loop-i.invariant.1 ∙ length_overwrite a.at (many record_bytes (take c.loop-i.i (holds_of a.words.now))) a.head.now
+    ap length c.loop-i.invariant ∙ length_overwrite a.at (many record_bytes (take c.loop-i.i (holds_of a.words.now))) a.head.now
 
 pub loop-i-init : goal.loop-i-init
-loop-i-init c = let a = c.args in (omega arith, written_none record_bytes 8 record_length a.at (holds_of a.words.now) a.head.now)
+loop-i-init c = let a = c.args in written_none record_bytes 8 record_length a.at (holds_of a.words.now) a.head.now
 
 pub write_record-requires : goal.write_record-requires
 write_record-requires c = let l = len (goal.at.write_record-requires c).At-loop-i in omega arith
-
-pub loop-i-smaller : goal.loop-i-smaller
-loop-i-smaller c = omega arith
 
 pub loop-i-preserved : goal.loop-i-preserved
 unfolding hold_at
@@ -37,12 +34,10 @@ loop-i-preserved c =
     let at = h in
     let start = at in
     let a = start.args in
-    let l : length (holds_of a.words.now) ≡ HOLDS = holds_long a.words.now in (
-      omega arith,
-      written_more record_bytes 8 record_length a.at at.loop-i.i (holds_of a.words.now) zero_hold a.head.now at.loop-i.head
-          w.write_record.new.head (omega arith) (omega arith) at.loop-i.invariant.1
-          (w.write_record.ensures ∙ (λ j. overwrite (a.at + at.loop-i.i * 8) (record_bytes (h.hold_at-hold.ensures j)) at.loop-i.head)),
-    )
+    let l : length (holds_of a.words.now) ≡ HOLDS = holds_long a.words.now in
+    written_more record_bytes 8 record_length a.at at.loop-i.i (holds_of a.words.now) zero_hold a.head.now at.loop-i.head
+    w.write_record.new.head (omega arith) (omega arith) at.loop-i.invariant
+    (w.write_record.ensures ∙ (λ j. overwrite (a.at + at.loop-i.i * 8) (record_bytes (h.hold_at-hold.ensures j)) at.loop-i.head))
 
 pub shape_of-head : goal.shape_of-head
 shape_of-head c = len (goal.at.shape_of-head c).At-loop-i
@@ -52,4 +47,4 @@ returns c =
     let at = c in
     let a = at.args in
     let e : at.loop-i.i ≡ a.count = omega arith in
-    at.loop-i.invariant.1 ∙ ap (λ (n : ℕ). overwrite a.at (many record_bytes (take n (holds_of a.words.now))) a.head.now) e
+    at.loop-i.invariant ∙ ap (λ (n : ℕ). overwrite a.at (many record_bytes (take n (holds_of a.words.now))) a.head.now) e

@@ -8,5 +8,5 @@ pub returns : goal.returns
 returns c =
     let w = c in
     let z = w in
-    dropped_is z.args.queue.now c.move_up.new.queue z.size.ensures c.move_up.ensures (w.word_at-count.result - 1)
+    dropped_is z.args.queue.now c.move_up.new.queue c.told-queue c.move_up.ensures (w.word_at-count.result - 1)
     (ap (λ (n : ℕ). n - 1) w.word_at-count.ensures)

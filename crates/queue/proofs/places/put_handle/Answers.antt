@@ -7,4 +7,4 @@ pub returns : goal.returns
 returns c =
     let z = c in
     let a = z.args in
-    put_is a.queue.now z.size.ensures a.handle c.word_at-count.result c.word_at-count.ensures (search rules)
+    put_is a.queue.now c.told-queue a.handle c.word_at-count.result c.word_at-count.ensures (search rules)

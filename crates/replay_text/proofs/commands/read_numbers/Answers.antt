@@ -1,87 +1,90 @@
 use borrow.Author.Rules.{rules}
 use native.Mathlib.Omega.{arith}
-use Prim.Native.Nat.{ℕ, ◌+◌}
-use mathlib.Core.Path.{ap, sym, subst, ◌∙◌}
+use Prim.Native.Nat.{ℕ, ◌+◌, ◌-◌, ◌≤◌}
+use mathlib.Core.Path.{◌≡◌, ap, sym, subst, ◌∙◌}
 use mathlib.Core.List.{List, [], ◌∷◌}
-use lib.ListN.{set}
-use Rattle.replay_model.specs.Text.{SPACE}
-use Rattle.replay_text.specs.Clauses.{number_value}
-use Rattle.replay_text.proofs.Marks.{split_first, split_last, split_more}
+use lib.ListN.{length, take, drop, set}
 use lib.Seq.{slice}
+use Rattle.std.specs.Prelude.{Option, None}
+use Rattle.replay_model.specs.Text.{SPACE, read_number}
 use Rattle.replay_model.specs.Lines.{words}
+use Rattle.replay_text.specs.Clauses.{Counted, number_value}
+use Rattle.replay_text.proofs.Marks.{split_first, split_last, split_more}
+use Rattle.replay_text.proofs.Reading.{part_is, rest_is}
 use Rattle.replay_text.proofs.Gathering.{Gathering, gather_start, gather_none, gather_full, gather_more, gather_end, gather_nothing}
 use Rattle.replay_text.proofs.commands.read_numbers.Goals as goal
 
 pub loop-value-init : goal.loop-value-init
 loop-value-init c =
-    let e = c in
-    let a = e.args in
-    (search rules, e.requires.0.ordered, gather_start (words (slice a.from a.to a.input.now)) a.values.now e.requires.1)
+    let s = c.args.line.now in
+    record {
+      inside = omega arith;
+      gathered = subst (λ (rest : List ℕ). Gathering (words s) (words rest) c.args.values.now 0) (rest_is 0 s)
+          (gather_start (words s) c.args.values.now c.requires);
+    }
 
-pub returns-in_default : goal.returns-in_default
-returns-in_default c =
-    let n = c in
-    let f = n in
-    let l = f in
-    let e = l in
-    let a = e.args in
-    let w = split_first SPACE a.to a.input.now e.requires.0.inside l.loop-value.start f.find_mark-stop.result f.find_mark-stop.ensures in
-    let all = words (slice a.from a.to a.input.now) in
-    let word = slice l.loop-value.start f.find_mark-stop.result a.input.now in
-    let g = subst (λ (ws : List (List ℕ)). Gathering all ws l.loop-value.values l.loop-value.count) w.1 l.loop-value.invariant.2 in
-    gather_nothing all (word ∷ w.0) l.loop-value.values l.loop-value.count g
-    (gather_none all w.0 l.loop-value.values l.loop-value.count word g (sym n.read_number.ensures ∙ ap number_value c.in_default.is))
+-- what was read is the number of the word that ends at the mark
+word_read : (from stop : ℕ) (s : List ℕ) (o : Option ℕ) → from ≤ stop → number_value o ≡ read_number (take (stop - from) (drop from s))
+    → read_number (slice from stop s) ≡ number_value o
+word_read from stop s o h e = ap read_number (sym (part_is from stop s h)) ∙ sym e
+
+-- the words that are left, by where the first of them ends
+left_is : (s values : List ℕ) (count : ℕ) (ws vs : List (List ℕ)) → ws ≡ vs → Gathering (words s) ws values count → Gathering (words s) vs values count
+left_is s values count ws vs e g = subst (λ (us : List (List ℕ)). Gathering (words s) us values count) e g
+
+pub returns-in_err-value : goal.returns-in_err-value
+returns-in_err-value c =
+    let s = c.args.line.now in
+    let l = c.loop-value in
+    let stop = c.find_mark-stop.result in
+    let m = c.find_mark-stop.ensures in
+    let w = split_first SPACE (length s) s (omega arith) l.start stop m in
+    let word = slice l.start stop s in
+    let g = left_is s l.values l.count _ _ w.1 l.invariant.gathered in
+    let none_is : ◌≡◌ {A = Option ℕ} None c.from_residual.result = search rules in
+    subst (Counted (words s) l.values) none_is
+    (gather_nothing (words s) (word ∷ w.0) l.values l.count g
+    (gather_none (words s) w.0 l.values l.count word g
+    (word_read l.start stop s c.read_number.result m.low c.read_number.ensures ∙ ap number_value c.in_err-value.was)))
 
 pub returns-then-count-ge-MOST : goal.returns-then-count-ge-MOST
 returns-then-count-ge-MOST c =
-    let n = c in
-    let f = n in
-    let l = f in
-    let e = l in
-    let a = e.args in
-    let w = split_first SPACE a.to a.input.now e.requires.0.inside l.loop-value.start f.find_mark-stop.result f.find_mark-stop.ensures in
-    let all = words (slice a.from a.to a.input.now) in
-    let word = slice l.loop-value.start f.find_mark-stop.result a.input.now in
-    let g = subst (λ (ws : List (List ℕ)). Gathering all ws l.loop-value.values l.loop-value.count) w.1 l.loop-value.invariant.2 in
-    gather_nothing all (word ∷ w.0) l.loop-value.values l.loop-value.count g
-    (gather_full all w.0 l.loop-value.values l.loop-value.count word g c.if-count-ge-MOST.true)
+    let s = c.args.line.now in
+    let l = c.loop-value in
+    let stop = c.find_mark-stop.result in
+    let w = split_first SPACE (length s) s (omega arith) l.start stop c.find_mark-stop.ensures in
+    let word = slice l.start stop s in
+    let g = left_is s l.values l.count _ _ w.1 l.invariant.gathered in
+    gather_nothing (words s) (word ∷ w.0) l.values l.count g
+    (gather_full (words s) w.0 l.values l.count word g c.if-count-ge-MOST.true)
 
-pub returns-then-stop-to : goal.returns-then-stop-to
-returns-then-stop-to c =
-    let n = c in
-    let f = n in
-    let l = f in
-    let e = l in
-    let a = e.args in
-    let v = c in
-    let all = words (slice a.from a.to a.input.now) in
-    let word = slice l.loop-value.start f.find_mark-stop.result a.input.now in
-    let last = split_last SPACE a.to a.input.now e.requires.0.inside l.loop-value.start f.find_mark-stop.result c.if-stop-to.true
-    f.find_mark-stop.ensures in
-    let g = subst (λ (ws : List (List ℕ)). Gathering all ws l.loop-value.values l.loop-value.count) last l.loop-value.invariant.2 in
-    let x = v.in-Value.value in
-    gather_end all (set l.loop-value.values l.loop-value.count x) (l.loop-value.count + 1)
-    (gather_more all [] l.loop-value.values l.loop-value.count word x g (search rules)
-    (sym n.read_number.ensures ∙ ap number_value v.in-Value.is))
+pub returns-then-stop-line : goal.returns-then-stop-line
+returns-then-stop-line c =
+    let s = c.args.line.now in
+    let l = c.loop-value in
+    let stop = c.find_mark-stop.result in
+    let m = c.find_mark-stop.ensures in
+    let word = slice l.start stop s in
+    let last = split_last SPACE (length s) s (omega arith) l.start stop c.if-stop-line.true m in
+    let g = left_is s l.values l.count _ _ last l.invariant.gathered in
+    let x = c.in_ok-value.value in
+    gather_end (words s) (set l.values l.count x) (l.count + 1)
+    (gather_more (words s) [] l.values l.count word x g (search rules)
+    (word_read l.start stop s c.read_number.result m.low c.read_number.ensures ∙ ap number_value c.in_ok-value.was))
 
 pub loop-value-preserved : goal.loop-value-preserved
 loop-value-preserved c =
-    let n = c in
-    let f = n in
-    let l = f in
-    let e = l in
-    let a = e.args in
-    let v = c in
-    let all = words (slice a.from a.to a.input.now) in
-    let word = slice l.loop-value.start f.find_mark-stop.result a.input.now in
-    let h = f.find_mark-stop.ensures.high in
-    let q = f.find_mark-stop.ensures.low in
-    let more = split_more SPACE a.to a.input.now e.requires.0.inside l.loop-value.start f.find_mark-stop.result (omega arith)
-    f.find_mark-stop.ensures in
-    let g = subst (λ (ws : List (List ℕ)). Gathering all ws l.loop-value.values l.loop-value.count) more l.loop-value.invariant.2 in
-    let x = v.in-Value.value in (
-      omega arith,
-      omega arith,
-      gather_more all (words (slice (f.find_mark-stop.result + 1) a.to a.input.now)) l.loop-value.values l.loop-value.count
-          word x g (search rules) (sym n.read_number.ensures ∙ ap number_value v.in-Value.is),
-    )
+    let s = c.args.line.now in
+    let l = c.loop-value in
+    let stop = c.find_mark-stop.result in
+    let m = c.find_mark-stop.ensures in
+    let high = m.high in
+    let word = slice l.start stop s in
+    let more = split_more SPACE (length s) s (omega arith) l.start stop (omega arith) m in
+    let g = left_is s l.values l.count _ _ more l.invariant.gathered in
+    let x = c.in_ok-value.value in
+    record {
+      inside = omega arith;
+      gathered = gather_more (words s) (words (slice (stop + 1) (length s) s)) l.values l.count word x g (search rules)
+          (word_read l.start stop s c.read_number.result m.low c.read_number.ensures ∙ ap number_value c.in_ok-value.was);
+    }

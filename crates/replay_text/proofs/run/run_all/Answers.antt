@@ -1,6 +1,5 @@
 -- No line ends, the first asks for no opening, or it opens a heap and the others are run on it.
 use native.Mathlib.Omega.{arith}
-use borrow.Author.Tests.{not-true, not-false}
 use Prim.Native.Nat.{ℕ}
 use mathlib.Core.Path.{sym, subst}
 use mathlib.Core.List.{List}
@@ -30,8 +29,8 @@ returns-then-end-len c =
     subst (λ (x : List ℕ). Put 0 x a.output.now p.put_bad.new.output p.put_bad.result)
     (input_unended a.input.now f.find_mark-end.result f.find_mark-end.ensures t.if-end-len.true) p.put_bad.ensures
 
-pub put_bad-requires-then-not-line : goal.put_bad-requires-then-not-line
-put_bad-requires-then-not-line c =
+pub put_bad-requires-in_default : goal.put_bad-requires-in_default
+put_bad-requires-in_default c =
     let t = c in
     let r = t in
     let x = r in
@@ -41,11 +40,11 @@ put_bad-requires-then-not-line c =
     let h = f.find_mark-end.ensures.high in
     let n = x.if-end-len.false in
     let is-bad = input_bad a.input.now f.find_mark-end.result f.find_mark-end.ensures (omega arith)
-    (no_opening r.read_opening-line.result _ r.read_opening-line.ensures (not-true r.read_opening-line.result.ok t.if-not-line.true)) in
+    (no_opening r.read_opening.result _ r.read_opening.ensures t.in_default.is) in
     subst (λ (x : List ℕ). Room 0 x a.output.now) (sym is-bad) e.requires
 
-pub returns-then-not-line : goal.returns-then-not-line
-returns-then-not-line c =
+pub returns-in_default : goal.returns-in_default
+returns-in_default c =
     let p = c in
     let t = p in
     let r = t in
@@ -56,8 +55,8 @@ returns-then-not-line c =
     let h = f.find_mark-end.ensures.high in
     let n = x.if-end-len.false in
     let is-bad = input_bad a.input.now f.find_mark-end.result f.find_mark-end.ensures (omega arith)
-    (no_opening r.read_opening-line.result _ r.read_opening-line.ensures (not-true r.read_opening-line.result.ok t.if-not-line.true)) in
-    subst (λ (x : List ℕ). Put 0 x a.output.now p.put_bad-then-not-line.new.output p.put_bad-then-not-line.result) is-bad p.put_bad-then-not-line.ensures
+    (no_opening r.read_opening.result _ r.read_opening.ensures t.in_default.is) in
+    subst (λ (x : List ℕ). Put 0 x a.output.now p.put_bad-in_default.new.output p.put_bad-in_default.result) is-bad p.put_bad-in_default.ensures
 
 pub run_opening-requires : goal.run_opening-requires
 run_opening-requires c =
@@ -69,8 +68,8 @@ run_opening-requires c =
     let a = e.args in
     let h = f.find_mark-end.ensures.high in
     let n = x.if-end-len.false in
-    let l = r.read_opening-line.result in
-    let asked = some_opening l _ r.read_opening-line.ensures (not-false l.ok y.if-not-line.false) in
+    let l = y.in-Some.opening in
+    let asked = some_opening r.read_opening.result _ r.read_opening.ensures l y.in-Some.is in
     let opens = input_opens a.input.now f.find_mark-end.result f.find_mark-end.ensures (omega arith)
     (record { heap = l.heap; grants = l.grants }) asked in (
       omega arith,
@@ -89,8 +88,8 @@ returns c =
     let a = e.args in
     let h = f.find_mark-end.ensures.high in
     let n = x.if-end-len.false in
-    let l = r.read_opening-line.result in
-    let asked = some_opening l _ r.read_opening-line.ensures (not-false l.ok y.if-not-line.false) in
+    let l = y.in-Some.opening in
+    let asked = some_opening r.read_opening.result _ r.read_opening.ensures l y.in-Some.is in
     let opens = input_opens a.input.now f.find_mark-end.result f.find_mark-end.ensures (omega arith)
     (record { heap = l.heap; grants = l.grants }) asked in
     subst (λ (x : List ℕ). Put 0 x a.output.now q.run_opening.new.output q.run_opening.result) opens q.run_opening.ensures

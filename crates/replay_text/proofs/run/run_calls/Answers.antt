@@ -1,4 +1,3 @@
-use borrow.Author.Rules.{rules}
 use native.Mathlib.Omega.{arith}
 use Prim.Native.Nat.{ℕ, ◌+◌, ◌<◌}
 use mathlib.Core.Path.{◌≡◌, refl, ap, sym, subst, ◌∙◌}
@@ -13,6 +12,8 @@ use lib.Seq.{slice}
 use Rattle.replay_model.specs.Lines.{lines}
 use Rattle.replay_model.specs.Replay.{bad_line, answer_line, ending, run_lines}
 use Rattle.replay_text.specs.Clauses.{Room, Put, asked_call}
+use Rattle.replay_model.specs.Commands.{line_call}
+use Rattle.replay_text.proofs.Reading.{part_is}
 use Rattle.replay_text.proofs.Puts.{put_length, room_first}
 use Rattle.replay_text.proofs.Running.{Running, run_start, run_length, run_room, run_more, run_last}
 use Rattle.replay_text.proofs.LineRuns.{run_ends, run_bad, run_next}
@@ -105,21 +106,22 @@ not-a-call t =
     let a = l.args in
     run_bad l.loop-heap.start a.input.now l.loop-heap.heap l.loop-heap.current f.find_mark-end.result f.find_mark-end.ensures
     (before-end_2 t)
-    (sym r.read_call.ensures ∙ ap asked_call t.in_default.is)
+    (ap line_call (sym (part_is l.loop-heap.start f.find_mark-end.result a.input.now f.find_mark-end.ensures.low))
+    ∙ sym r.read_call.ensures ∙ ap asked_call t.in_default.is)
 
 -- a call that was made, as a step
 stepped : (q : After-perform-done)
     → let l = q in
     outcome q.perform-done.new.heap q.perform-done.result.accounts (answer_values q.perform-done.result.answer)
-    ≡ own_step q.in-Call.call l.loop-heap.heap l.loop-heap.current
+    ≡ own_step q.in-Some.call l.loop-heap.heap l.loop-heap.current
 stepped q =
     let l = q in
-    performed_step (table l.loop-heap.current.edition) q.in-Call.call l.loop-heap.heap l.loop-heap.current _
+    performed_step (table l.loop-heap.current.edition) q.in-Some.call l.loop-heap.heap l.loop-heap.current _
     q.perform-done.ensures
 
 -- its answer and the run of the lines behind it are what is left
 answer_of : After-perform-done → List ℕ
-answer_of q = answer_line q.in-Call.call (answer_values q.perform-done.result.answer)
+answer_of q = answer_line q.in-Some.call (answer_values q.perform-done.result.answer)
 
 behind : After-perform-done → List ℕ
 behind q =
@@ -150,9 +152,10 @@ made q =
     let l = f in
     let a = l.args in
     run_next l.loop-heap.start a.input.now l.loop-heap.heap l.loop-heap.current f.find_mark-end.result f.find_mark-end.ensures
-    (before-end_3 q) v.in-Call.call
+    (before-end_3 q) v.in-Some.call
     q.perform-done.new.heap q.perform-done.result.accounts (answer_values q.perform-done.result.answer)
-    (sym r.read_call.ensures ∙ ap asked_call v.in-Call.is) (stepped q)
+    (ap line_call (sym (part_is l.loop-heap.start f.find_mark-end.result a.input.now f.find_mark-end.ensures.low))
+    ∙ sym r.read_call.ensures ∙ ap asked_call v.in-Some.is) (stepped q)
 
 pub loop-heap-init : goal.loop-heap-init
 loop-heap-init c =
@@ -164,9 +167,6 @@ loop-heap-init c =
       run_start (run_lines (lines (slice a.from (length a.input.now) a.input.now)) a.heap.now
           a.accounts) a.at a.output.now,
     )
-
-pub find_mark-end-requires : goal.find_mark-end-requires
-find_mark-end-requires c = record { ordered = c.loop-heap.invariant.0; inside = search rules }
 
 pub put_ending-requires : goal.put_ending-requires
 put_ending-requires c =
@@ -202,9 +202,6 @@ returns-then-end-len c =
     p.put_ending.result
     (subst (so_far (goal.at.returns-then-end-len c).At-loop-heap) (ended (goal.at.returns-then-end-len c).Then-end-len) l.loop-heap.invariant.3)
     p.put_ending.ensures
-
-pub read_call-requires : goal.read_call-requires
-read_call-requires c = record { ordered = c.find_mark-end.ensures.low; inside = c.find_mark-end.ensures.high }
 
 pub put_bad-requires : goal.put_bad-requires
 put_bad-requires c =
@@ -269,7 +266,7 @@ loop-heap-preserved c =
     let a = e.args in (
       omega (arith, before-end (goal.at.loop-heap-preserved c).Else-end-len),
       q.perform-done.auto.heap ∙ l.loop-heap.invariant.1,
-      reached_next l.loop-heap.heap l.loop-heap.current q.in-Call.call q.perform-done.new.heap
+      reached_next l.loop-heap.heap l.loop-heap.current q.in-Some.call q.perform-done.new.heap
           q.perform-done.result.accounts (answer_values q.perform-done.result.answer) l.loop-heap.invariant.2
           (stepped (goal.at.loop-heap-preserved c).After-perform-done),
       run_more (whole (goal.at.loop-heap-preserved c).At-loop-heap) a.at a.output.now l.loop-heap.output p.put_answer-place.new.output l.loop-heap.place

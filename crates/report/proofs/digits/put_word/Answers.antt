@@ -16,12 +16,12 @@ use Rattle.report.proofs.digits.put_word.Goals.{At-loop-i}
 len : (c : At-loop-i) → length c.loop-i.text ≡ length c.args.text.now
 len c =
     let a = c.args in
-    ap length c.loop-i.invariant.1 ∙ length_overwrite a.at (take c.loop-i.i (digits 8 a.n)) a.text.now
+    ap length c.loop-i.invariant ∙ length_overwrite a.at (take c.loop-i.i (digits 8 a.n)) a.text.now
 
 pub loop-i-init : goal.loop-i-init
 loop-i-init c =
     let a = c.args in
-    (omega arith, sym (overwrite_nil a.at a.text.now))
+    sym (overwrite_nil a.at a.text.now)
 
 pub bounds-text-at : goal.bounds-text-at
 bounds-text-at c = omega (arith, len (goal.at.bounds-text-at c).At-loop-i)
@@ -33,11 +33,9 @@ loop-i-preserved c =
     let a = s.args in
     let i = l.loop-i.i in
     let n = digits_length 8 a.n in
-    let e : c.digit_of.result ≡ get_or (digits 8 a.n) i 0 = c.digit_of.ensures ∙ shifted a.n i (omega arith) in (
-      omega arith,
-      put_more a.at i c.digit_of.result (digits 8 a.n) a.text.now l.loop-i.text (omega (arith, s.requires)) (omega arith) e
-          l.loop-i.invariant.1,
-    )
+    let e : c.digit_of.result ≡ get_or (digits 8 a.n) i 0 = c.digit_of.ensures ∙ shifted a.n i (omega arith) in
+    put_more a.at i c.digit_of.result (digits 8 a.n) a.text.now l.loop-i.text (omega (arith, s.requires)) (omega arith) e
+    l.loop-i.invariant
 
 pub shape_of-text : goal.shape_of-text
 shape_of-text c = len (goal.at.shape_of-text c).At-loop-i
@@ -47,4 +45,4 @@ returns c =
     let l = c in
     let a = l.args in
     let n = digits_length 8 a.n in
-    l.loop-i.invariant.1 ∙ ap (λ (p : List ℕ). overwrite a.at p a.text.now) (take_all l.loop-i.i (digits 8 a.n) (omega arith))
+    l.loop-i.invariant ∙ ap (λ (p : List ℕ). overwrite a.at p a.text.now) (take_all l.loop-i.i (digits 8 a.n) (omega arith))

@@ -1,13 +1,9 @@
--- The invariant: the first `i` digits stand at the place (`put_more`), each by its shift (`shifted`). The measure is how many are left.
+-- The invariant: the first `i` digits stand at the place (`put_more`), each by its shift (`shifted`).
 use mathlib.Core.Path.{◌≡◌}
-use Prim.Native.Nat.{◌-◌, ◌≤◌}
 use lib.ListN.{take}
 use Rattle.layout.specs.Bytes.{overwrite}
 use Rattle.report.specs.Words.{digits}
 use Rattle.report.proofs.digits.put_word.Given as goal
 
 abbrev pub invariant-loop-i : goal.invariant-loop-i
-invariant-loop-i l = (l.i ≤ 8) × (l.text ≡ overwrite l.at (take l.i (digits 8 l.n)) l.initial.text)
-
-abbrev pub decreases-loop-i : goal.decreases-loop-i
-decreases-loop-i l = 8 - l.i
+invariant-loop-i l = l.text ≡ overwrite l.at (take l.i (digits 8 l.n)) l.initial.text

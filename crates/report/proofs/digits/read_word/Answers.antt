@@ -8,7 +8,7 @@ use Rattle.report.proofs.digits.read_word.Goals as goal
 
 pub loop-i-init : goal.loop-i-init
 unfolding number
-loop-i-init c = (omega arith, refl)
+loop-i-init c = refl
 
 pub overflow_mul-n : goal.overflow_mul-n
 overflow_mul-n c =
@@ -16,7 +16,7 @@ overflow_mul-n c =
     let s = l in
     let a = s.args in
     let e = read_more a.text.now a.at s.requires.0 s.requires.1 l.loop-i.i l.loop-i.n (value (get_or a.text.now (a.at + l.loop-i.i) 0))
-    (omega arith) l.loop-i.invariant.1 refl in
+    (omega arith) l.loop-i.invariant refl in
     omega (arith, e.1)
 
 pub overflow_add-n : goal.overflow_add-n
@@ -24,7 +24,7 @@ overflow_add-n c =
     let l = c in
     let s = l in
     let a = s.args in
-    let e = read_more a.text.now a.at s.requires.0 s.requires.1 l.loop-i.i l.loop-i.n c.value_of.result (omega arith) l.loop-i.invariant.1
+    let e = read_more a.text.now a.at s.requires.0 s.requires.1 l.loop-i.i l.loop-i.n c.value_of.result (omega arith) l.loop-i.invariant
     c.value_of.ensures in
     omega (arith, e.1)
 
@@ -33,13 +33,13 @@ loop-i-preserved c =
     let l = c in
     let s = l in
     let a = s.args in
-    let e = read_more a.text.now a.at s.requires.0 s.requires.1 l.loop-i.i l.loop-i.n c.value_of.result (omega arith) l.loop-i.invariant.1
+    let e = read_more a.text.now a.at s.requires.0 s.requires.1 l.loop-i.i l.loop-i.n c.value_of.result (omega arith) l.loop-i.invariant
     c.value_of.ensures in
-    (omega arith, e.0)
+    e.0
 
 pub returns : goal.returns
 returns c =
     let l = c in
     let a = l.args in
     let e : l.loop-i.i ≡ 8 = omega arith in
-    l.loop-i.invariant.1 ∙ ap (λ (k : ℕ). number (take k (drop a.at a.text.now))) e
+    l.loop-i.invariant ∙ ap (λ (k : ℕ). number (take k (drop a.at a.text.now))) e

@@ -11,7 +11,7 @@ returns-then-c-lt48 c = sym (value_low c.args.character (omega arith))
 pub returns-then-c-le57 : goal.returns-then-c-le57
 returns-then-c-le57 c =
     let w = c in
-    let e = w.wide-c.ensures.0 in
+    let e = w.from-c.ensures in
     ap (λ (n : ℕ). n - 48) e ∙ sym (value_decimal w.args.character (omega arith) (omega arith))
 
 pub returns-then-c-lt97 : goal.returns-then-c-lt97
@@ -20,7 +20,7 @@ returns-then-c-lt97 c = sym (value_between c.args.character (omega arith) (omega
 pub returns-then-c-le102 : goal.returns-then-c-le102
 returns-then-c-le102 c =
     let w = c in
-    let e = w.wide-c.ensures.0 in
+    let e = w.from-c.ensures in
     ap (λ (n : ℕ). n - 87) e ∙ sym (value_letter w.args.character (omega arith) (omega arith))
 
 pub returns : goal.returns

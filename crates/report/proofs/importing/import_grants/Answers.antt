@@ -13,18 +13,18 @@ returns-then-i-ge-QUOTAS c =
     ap import_told
     (c.refused.ensures
     ∙ import_over l.args.text.now l.loop-i.grants l.loop-i.i l.loop-i.invariant.1
-    c.loop-i-test.true (omega arith))
+    (omega arith) (omega arith))
 
-pub returns-in-Bad : goal.returns-in-Bad
-returns-in-Bad c =
+pub returns-in-Err : goal.returns-in-Err
+returns-in-Err c =
     let m = c in
     let r = m in
     let l = r in
     ap import_told
-    (c.refused-in-Bad.ensures
+    (c.refused-in-Err.ensures
     ∙ import_bad l.args.text.now l.loop-i.grants l.loop-i.i l.loop-i.invariant.1
-    r.loop-i-test.true m.in-Bad.refusal r.if-i-ge-QUOTAS.false
-    (sym m.in-Bad.is ∙ r.read_line-line.ensures))
+    (omega arith) m.in-Err.refusal r.if-i-ge-QUOTAS.false
+    (sym m.in-Err.is ∙ r.read_line.ensures))
 
 pub loop-i-preserved : goal.loop-i-preserved
 loop-i-preserved c =
@@ -32,8 +32,8 @@ loop-i-preserved c =
     let r = m in
     let l = r in (
       omega arith,
-      import_more l.args.text.now l.loop-i.grants l.loop-i.i l.loop-i.invariant.1 m.in-Grant.grant
-          r.if-i-ge-QUOTAS.false r.loop-i-test.true (sym m.in-Grant.is ∙ r.read_line-line.ensures),
+      import_more l.args.text.now l.loop-i.grants l.loop-i.i l.loop-i.invariant.1 m.in-Ok.grant
+          r.if-i-ge-QUOTAS.false (omega arith) (sym m.in-Ok.is ∙ r.read_line.ensures),
     )
 
 pub returns : goal.returns
@@ -41,4 +41,4 @@ returns c =
     let l = c in
     ap import_told
     (import_end l.args.text.now l.loop-i.grants l.loop-i.i l.loop-i.invariant.1
-    c.loop-i-test.false)
+    (omega arith))

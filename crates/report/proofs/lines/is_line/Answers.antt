@@ -7,26 +7,24 @@ use Rattle.report.proofs.lines.is_line.Goals as goal
 pub loop-k-init : goal.loop-k-init
 loop-k-init c =
     let a = c.args in
-    (omega arith, right_start a.text.now a.at)
+    right_start a.text.now a.at
 
 pub returns-then-not-is_word : goal.returns-then-not-is_word
 returns-then-not-is_word c =
     let l = c in
     let a = l.args in
-    right_stops a.text.now a.at l.loop-k.k (omega arith) l.loop-k.invariant.1
+    right_stops a.text.now a.at l.loop-k.k (omega arith) l.loop-k.invariant
     (sym c.is_word.ensures ∙ not-true c.is_word.result c.if-not-is_word.true-raw)
 
 pub loop-k-preserved : goal.loop-k-preserved
 loop-k-preserved c =
     let l = c in
-    let a = l.args in (
-      omega arith,
-      right_goes_on a.text.now a.at l.loop-k.k (omega arith) l.loop-k.invariant.1
-          (sym c.is_word.ensures ∙ not-false c.is_word.result c.if-not-is_word.false-raw),
-    )
+    let a = l.args in
+    right_goes_on a.text.now a.at l.loop-k.k (omega arith) l.loop-k.invariant
+    (sym c.is_word.ensures ∙ not-false c.is_word.result c.if-not-is_word.false-raw)
 
 pub returns : goal.returns
 returns c =
     let l = c in
     let a = l.args in
-    c.is_word-2.ensures ∙ right_ends a.text.now a.at l.loop-k.k (omega arith) l.loop-k.invariant.1
+    c.is_word-2.ensures ∙ right_ends a.text.now a.at l.loop-k.k (omega arith) l.loop-k.invariant

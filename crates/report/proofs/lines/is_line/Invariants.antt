@@ -1,14 +1,10 @@
 -- The invariant: whether the words from the `k`-th on are right is whether all are. A turn stops (`right_stops`) or passes one more
--- (`right_goes_on`). The measure is how many are left before the last.
+-- (`right_goes_on`).
 use mathlib.Core.Path.{◌≡◌}
-use Prim.Native.Nat.{◌-◌, ◌≤◌}
 use lib.ListN.{drop}
 use Rattle.report.specs.Words.{words_right}
 use Rattle.report.proofs.Loops.{right_from}
 use Rattle.report.proofs.lines.is_line.Given as goal
 
 abbrev pub invariant-loop-k : goal.invariant-loop-k
-invariant-loop-k l = (l.k ≤ 5) × (words_right 6 (drop l.at l.text) ≡ right_from l.text l.at l.k)
-
-abbrev pub decreases-loop-k : goal.decreases-loop-k
-decreases-loop-k l = 5 - l.k
+invariant-loop-k l = words_right 6 (drop l.at l.text) ≡ right_from l.text l.at l.k

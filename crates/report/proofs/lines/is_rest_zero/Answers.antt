@@ -4,7 +4,7 @@ use Rattle.report.proofs.Loops.{zero_stops, zero_goes_on, zero_ends, word_digits
 use Rattle.report.proofs.lines.is_rest_zero.Goals as goal
 
 pub loop-k-init : goal.loop-k-init
-loop-k-init c = (omega arith, refl)
+loop-k-init c = refl
 
 pub read_word-requires : goal.read_word-requires
 read_word-requires c =
@@ -17,20 +17,18 @@ pub returns-then-read_word-ne0 : goal.returns-then-read_word-ne0
 returns-then-read_word-ne0 c =
     let l = c in
     let a = l.args in
-    zero_stops a.text.now a.at l.loop-k.k c.read_word.result (omega arith) l.loop-k.invariant.1 c.read_word.ensures
+    zero_stops a.text.now a.at l.loop-k.k c.read_word.result (omega arith) l.loop-k.invariant c.read_word.ensures
     c.if-read_word-ne0.true
 
 pub loop-k-preserved : goal.loop-k-preserved
 loop-k-preserved c =
     let l = c in
-    let a = l.args in (
-      omega arith,
-      zero_goes_on a.text.now a.at l.loop-k.k c.read_word.result (omega arith) l.loop-k.invariant.1
-          c.read_word.ensures c.if-read_word-ne0.false,
-    )
+    let a = l.args in
+    zero_goes_on a.text.now a.at l.loop-k.k c.read_word.result (omega arith) l.loop-k.invariant
+    c.read_word.ensures c.if-read_word-ne0.false
 
 pub returns : goal.returns
 returns c =
     let l = c in
     let a = l.args in
-    zero_ends a.text.now a.at l.loop-k.k (omega arith) l.loop-k.invariant.1
+    zero_ends a.text.now a.at l.loop-k.k (omega arith) l.loop-k.invariant

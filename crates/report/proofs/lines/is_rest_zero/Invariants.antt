@@ -1,14 +1,11 @@
 -- The invariant: whether the words from the `k`-th on are zero is whether all behind the first are. A turn stops (`zero_stops`) or passes one more
--- (`zero_goes_on`). The measure is how many are left.
+-- (`zero_goes_on`).
 use mathlib.Core.Path.{◌≡◌}
-use Prim.Native.Nat.{◌+◌, ◌-◌, ◌≤◌}
+use Prim.Native.Nat.{◌+◌}
 use lib.ListN.{drop}
 use Rattle.report.specs.Words.{words, all_zero}
 use Rattle.report.proofs.Loops.{zero_from}
 use Rattle.report.proofs.lines.is_rest_zero.Given as goal
 
 abbrev pub invariant-loop-k : goal.invariant-loop-k
-invariant-loop-k l = (l.k ≤ 6) × (all_zero (words 5 (drop (l.at + 9) l.text)) ≡ zero_from l.text l.at l.k)
-
-abbrev pub decreases-loop-k : goal.decreases-loop-k
-decreases-loop-k l = 6 - l.k
+invariant-loop-k l = all_zero (words 5 (drop (l.at + 9) l.text)) ≡ zero_from l.text l.at l.k

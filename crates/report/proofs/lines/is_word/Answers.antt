@@ -7,7 +7,7 @@ use Rattle.report.proofs.lines.is_word.Goals as goal
 
 pub loop-i-init : goal.loop-i-init
 unfolding all_digits
-loop-i-init c = (omega arith, refl)
+loop-i-init c = refl
 
 pub returns-then-not-is_digit : goal.returns-then-not-is_digit
 returns-then-not-is_digit c =
@@ -21,15 +21,13 @@ pub loop-i-preserved : goal.loop-i-preserved
 loop-i-preserved c =
     let l = c in
     let s = l in
-    let a = s.args in (
-      omega arith,
-      word_goes_on a.text.now a.at a.mark s.requires l.loop-i.i (omega arith) l.loop-i.invariant.1
-          (sym c.is_digit.ensures ∙ not-false c.is_digit.result c.if-not-is_digit.false-raw),
-    )
+    let a = s.args in
+    word_goes_on a.text.now a.at a.mark s.requires l.loop-i.i (omega arith) l.loop-i.invariant
+    (sym c.is_digit.ensures ∙ not-false c.is_digit.result c.if-not-is_digit.false-raw)
 
 pub returns : goal.returns
 returns c =
     let l = c in
     let s = l in
     let a = s.args in
-    word_ends a.text.now a.at a.mark s.requires l.loop-i.i (omega arith) l.loop-i.invariant.1
+    word_ends a.text.now a.at a.mark s.requires l.loop-i.i (omega arith) l.loop-i.invariant

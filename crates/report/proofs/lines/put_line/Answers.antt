@@ -5,4 +5,4 @@ use Rattle.report.proofs.lines.put_line.Goals as goal
 pub returns : goal.returns
 returns c =
     let a = c.args in
-    line_put a.at a.grant a.text.now c.put_word.new.text c.put_part.new.text c.requires c.put_word.ensures c.put_part.ensures
+    line_put a.at a.grant a.text.now c.put_word.new.text c.copy_from_slice.new.self c.requires c.put_word.ensures c.copy_from_slice.ensures.after

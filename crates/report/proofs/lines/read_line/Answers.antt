@@ -7,8 +7,8 @@ use Prim.Native.Nat.{ℕ, ◌+◌}
 use lib.ListN.{drop, length-drop}
 use lib.Seq.{drop-drop}
 use borrow.Author.Tests.{not-true, not-false}
+use Rattle.std.specs.Prelude.{Ok}
 use Rattle.report.specs.Words.{words, words_right, all_zero}
-use Rattle.report.specs.declared.Line.TheVariants.{Grant}
 use Rattle.report.proofs.Words.{words_digits}
 use Rattle.report.proofs.Loops.{line_short, line_wrong, line_reserved, line_right}
 use Rattle.report.proofs.lines.read_line.Goals as goal
@@ -53,5 +53,5 @@ returns c =
     let z = c in
     let e = z in
     let a = e.args in
-    ap Grant c.read_word.ensures ∙ line_right (drop a.at a.text.now) (right (goal.at.returns c).Else-not-is_line)
+    ap Ok c.read_word.ensures ∙ line_right (drop a.at a.text.now) (right (goal.at.returns c).Else-not-is_line)
     (rest a.text.now a.at z.is_rest_zero.result z.is_rest_zero.ensures ∙ not-false z.is_rest_zero.result c.if-not-is_rest_zero.false-raw)

@@ -4,6 +4,7 @@ use mathlib.Core.Path.{refl, ap, sym, ◌∙◌}
 use mathlib.Core.List.{[], ◌∷◌, ◌++◌}
 use lib.ListN.{length-append}
 use borrow.Author.Rules.{rules}
+use Rattle.std.specs.Prelude.{Ok}
 use Rattle.settings.specs.Entries.{entry_told, nth_of, picked}
 use Rattle.settings.proofs.Reading.{Known, known, unread}
 use Rattle.settings.proofs.Walks.{walk_begin, walk_end, walk_bad, walk_more}
@@ -29,11 +30,11 @@ returns-in_default c =
 -- the entry that a turn reads
 turn : (c : After-picked-found)
     → let at = c in
-    Known at.loop-at.last at.loop-at.at at.args.store.now c.in-Whole.entry
+    Known at.loop-at.last at.loop-at.at at.args.store.now c.in-Some.entry
 turn c =
     let at = c in
-    known at.loop-at.last at.loop-at.at at.args.store.now c.in-Whole.entry
-    (sym c.in-Whole.is ∙ c.read_entry.ensures)
+    known at.loop-at.last at.loop-at.at at.args.store.now c.in-Some.entry
+    (sym c.in-Some.is ∙ c.read_entry.ensures)
 
 pub overflow_add-number : goal.overflow_add-number
 overflow_add-number c = let l = c.loop-at.invariant.1.1.1.0 in search rules
@@ -45,7 +46,7 @@ pub loop-at-preserved : goal.loop-at-preserved
 loop-at-preserved c =
     let at = c in
     let a = at.args in
-    let e = c.in-Whole.entry in
+    let e = c.in-Some.entry in
     let i = at.loop-at.invariant in
     let r = i.0 in
     let k = turn c in
@@ -58,7 +59,7 @@ loop-at-preserved c =
           ap (λ n. n + 1) i.1.1.0 ∙ sym (length-append r (e ∷ [])),
           (
             omega arith,
-            ap entry_told (c.picked-found.ensures ∙ ap (λ n. picked a.n at.loop-at.found n e) i.1.1.0)
+            ap (λ o. entry_told (Ok o)) (c.picked-found.ensures ∙ ap (λ n. picked a.n at.loop-at.found n e) i.1.1.0)
                 ∙ nth_snoc a.n at.loop-at.found r e i.1.1.1.1,
           ),
         ),

@@ -1,13 +1,13 @@
 use native.Mathlib.Omega.{arith}
 use mathlib.Core.Path.{refl, ap, sym, ◌∙◌}
 use mathlib.Core.List.{[], ◌∷◌, ◌++◌}
-use Rattle.settings.specs.declared.Found.{Found}
-use Rattle.settings.specs.declared.Scan.TheVariants.{Done}
+use Rattle.std.specs.Prelude.{Option, Ok}
 use Rattle.settings.specs.Find.{later, value_in, found_in}
 use Rattle.settings.proofs.Reading.{Known, known, unread}
 use Rattle.settings.proofs.Walks.{walk_begin, walk_end, walk_bad, walk_more}
 use Rattle.settings.proofs.Values.{value_snoc}
 use Rattle.settings.proofs.finding.find_in.Goals as goal
+use Rattle.settings.specs.declared.Span.{Span}
 use Rattle.settings.proofs.finding.find_in.Goals.{After-later-found}
 
 pub loop-at-init : goal.loop-at-init
@@ -26,11 +26,11 @@ returns-in_default c =
 -- the entry that a turn reads
 turn : (c : After-later-found)
     → let at = c in
-    Known at.loop-at.last at.loop-at.at at.args.store.now c.in-Whole.entry
+    Known at.loop-at.last at.loop-at.at at.args.store.now c.in-Some.entry
 turn c =
     let at = c in
-    known at.loop-at.last at.loop-at.at at.args.store.now c.in-Whole.entry
-    (sym c.in-Whole.is ∙ c.read_entry.ensures)
+    known at.loop-at.last at.loop-at.at at.args.store.now c.in-Some.entry
+    (sym c.in-Some.is ∙ c.read_entry.ensures)
 
 pub loop-at-smaller : goal.loop-at-smaller
 loop-at-smaller c = let k = turn c in let m = k.moves in let l = k.inside in omega arith
@@ -39,12 +39,12 @@ pub loop-at-preserved : goal.loop-at-preserved
 loop-at-preserved c =
     let at = c in
     let a = at.args in
-    let e = c.in-Whole.entry in
+    let e = c.in-Some.entry in
     let r = at.loop-at.invariant.0 in (
       r ++ (e ∷ []),
       (
         walk_more a.store.now r at.loop-at.last at.loop-at.at at.loop-at.invariant.1.0 (omega arith) e (turn c),
-        c.later-found.ensures ∙ ap (λ (f : Found). later a.name a.version f e) at.loop-at.invariant.1.1 ∙ sym (value_snoc a.name a.version r e),
+        c.later-found.ensures ∙ ap (λ (f : Option Span). later a.name a.version f e) at.loop-at.invariant.1.1 ∙ sym (value_snoc a.name a.version r e),
       ),
     )
 
@@ -54,4 +54,4 @@ returns c =
     let at = c in
     let a = at.args in
     let i = at.loop-at.invariant in
-    ap Done i.1.1 ∙ sym (ap (found_in a.name a.version) (walk_end a.store.now i.0 at.loop-at.last at.loop-at.at i.1.0 (omega arith)))
+    ap Ok i.1.1 ∙ sym (ap (found_in a.name a.version) (walk_end a.store.now i.0 at.loop-at.last at.loop-at.at i.1.0 (omega arith)))

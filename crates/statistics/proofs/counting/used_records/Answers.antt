@@ -28,12 +28,6 @@ next c =
 pub overflow_add-count : goal.overflow_add-count
 overflow_add-count c = let n = next c in omega (arith, n.few, c.loop-i-test.true)
 
-pub overflow_add-i : goal.overflow_add-i
-overflow_add-i c = omega (arith, c.loop-i-test.true)
-
-pub loop-i-smaller : goal.loop-i-smaller
-loop-i-smaller c = omega (arith, c.loop-i-test.true)
-
 pub loop-i-preserved : goal.loop-i-preserved
 loop-i-preserved c = next c
 

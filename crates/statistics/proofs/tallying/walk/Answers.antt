@@ -1,8 +1,8 @@
+use Rattle.std.specs.Prelude.{Some}
 use Prim.Native.Nat.{◌+◌, ◌^◌}
 use native.Mathlib.Omega.{arith}
 use mathlib.Core.Path.{◌≡◌, ap, sym, subst, ◌∙◌}
 use Rattle.layout.specs.Blocks.{start_at}
-use Rattle.layout.specs.declared.Start.TheVariants.{Block as Starts}
 use Rattle.layout.proofs.Starts.{Found, start_found}
 use Rattle.lookup.specs.declared.Met.{Met}
 use Rattle.lookup.specs.Walk.{headed}
@@ -25,14 +25,14 @@ returns-in_default c =
     let s = l.args.heap.now in
     tallied_end s l.loop-header.at l.loop-header.tally l.loop-header.invariant.0 (met_nothing l.loop-header.at s (sym t.start_at.ensures ∙ c.in_default.is))
 
-found : (c : After-struct_known-1) → start_at c.loop-header.at c.args.heap.now ≡ Starts c.in-Block.header
-found c = sym c.start_at.ensures ∙ c.in-Block.is
+found : (c : After-struct_known-1) → start_at c.loop-header.at c.args.heap.now ≡ Some c.in-Some.header
+found c = sym c.start_at.ensures ∙ c.in-Some.is
 
-known : (c : After-struct_known-1) → Found c.loop-header.at c.args.heap.now c.in-Block.header
-known c = start_found c.loop-header.at c.args.heap.now c.in-Block.header (found c)
+known : (c : After-struct_known-1) → Found c.loop-header.at c.args.heap.now c.in-Some.header
+known c = start_found c.loop-header.at c.args.heap.now c.in-Some.header (found c)
 
 abbrev block : After-struct_known-1 → Met
-block c = headed c.loop-header.at c.in-Block.header
+block c = headed c.loop-header.at c.in-Some.header
 
 pub overflow_mul-size : goal.overflow_mul-size
 overflow_mul-size c =
@@ -45,7 +45,7 @@ single-requires c =
     omega (arith, c.loop-header.invariant.1)
 
 abbrev block_2 : After-single → Met
-block_2 c = headed c.loop-header.at c.in-Block.header
+block_2 c = headed c.loop-header.at c.in-Some.header
 
 -- the tally of the block, whatever stands before it
 alone : (c : After-single) → c.single.result ≡ single (block_2 c)
@@ -85,6 +85,6 @@ loop-header-preserved c =
           (sym (c.joined-tally.ensures ∙ ap (joined t.loop-header.tally) (alone (goal.at.loop-header-preserved c).After-single)))
           (tallied_next e.args.heap.now t.loop-header.at t.loop-header.tally t.loop-header.invariant.0
           (block (goal.at.loop-header-preserved c).After-struct_known-1)
-          (met_block t.loop-header.at e.args.heap.now e.in-Block.header (found (goal.at.loop-header-preserved c).After-struct_known-1))),
+          (met_block t.loop-header.at e.args.heap.now e.in-Some.header (found (goal.at.loop-header-preserved c).After-struct_known-1))),
       t.loop-header.invariant.1,
     )

@@ -28,7 +28,7 @@ loop-at-init c =
     let s = c in
     let a = s.args in (
       omega arith,
-      walking_start (table a.edition) a.kind a.last (heap (goal.at.loop-at-init c).Start) (record {
+      walking_start (table a.numbers.edition) a.numbers.kind a.numbers.last (heap (goal.at.loop-at-init c).Start) (record {
         inside =
             omega arith;
         even = refl;
@@ -166,7 +166,7 @@ Answers c n t =
     let l = c.loop-at in
     let h = c.header_in-header.result in
     let v = c.visit.new in
-    Visited (table a.edition) a.kind a.last h.serial (8 * h.size) n l.before a.words.now l.heads l.links l.owed t
+    Visited (table a.numbers.edition) a.numbers.kind a.numbers.last h.serial (8 * h.size) n l.before a.words.now l.heads l.links l.owed t
     v.heads v.links v.owed v.left
 
 visited : (c : After-visit) (t : Bool) → c.visit.result ≡ t → Answers c (length (heap_4 c) - length (after c)) t
@@ -188,7 +188,7 @@ Answers_2 c n t =
     let l = c.loop-at in
     let h = c.header_in-header.result in
     let v = c.visit.new in
-    Visited (table a.edition) a.kind a.last h.serial (8 * h.size) n l.before a.words.now l.heads l.links l.owed t
+    Visited (table a.numbers.edition) a.numbers.kind a.numbers.last h.serial (8 * h.size) n l.before a.words.now l.heads l.links l.owed t
     v.heads v.links v.owed v.left
 
 abbrev heap_5 : Else-not-visit → List ℕ
@@ -244,6 +244,6 @@ returns c =
     let s = heap (goal.at.returns c).Start in
     let place = sym (rest_place s l.at (omega (arith, l.invariant.0, long (goal.at.returns c).Start))) in
     c.is_settled.ensures
-    ∙ sym (walked_end (table a.edition) a.kind a.last s a.words.now _ (length s - length (drop l.at s)) l.back l.before
+    ∙ sym (walked_end (table a.numbers.edition) a.numbers.kind a.numbers.last s a.words.now _ (length s - length (drop l.at s)) l.back l.before
     l.heads l.links l.owed l.left (ap allowed (long (goal.at.returns c).Start) ∙ b.requires.1)
     (walked_far l.invariant.1 (ap (λ (n : ℕ). drop n s) place) (omega (arith, length-drop l.at s, long (goal.at.returns c).Start, f.loop-at-test.false))))

@@ -1,7 +1,7 @@
 -- `survey::framed::walk_frames` meets its contract. The loop's invariant is `Walking` over the heap's rest from the place on, as in the survey's own walk. The
 -- measure is what is left of the size: a block that was visited has a size.
+use Rattle.std.specs.Prelude.{Some}
 use Rattle.std.proofs.Common.{◌-◌, ◌≤◌, drop}
-use mathlib.Core.Option.{some}
 use Rattle.rounding.specs.Rounding.{table}
 use Rattle.layout.specs.Blocks.{cut}
 use Rattle.audit.specs.Audit.{behind, audit_parsed}
@@ -15,9 +15,9 @@ abbrev pub invariant-loop-at : goal.invariant-loop-at
 invariant-loop-at l =
     let s = heap_in l.from l.size l.image in
     (l.at ≤ l.size)
-    × Walking (table l.edition) l.kind l.last s l.words (audit_parsed l.last (cut 0 (drop 0 s))
-    (some (behind 1 (keys_left l.words l.initial.heads l.initial.links) l.initial.owed)))
-    (fitting (table l.edition) l.kind 0 (cut 0 (drop 0 s))) l.heads l.links l.owed l.left l.before l.back (drop l.at s)
+    × Walking (table l.numbers.edition) l.numbers.kind l.numbers.last s l.words (audit_parsed l.numbers.last (cut 0 (drop 0 s))
+    (Some (behind 1 (keys_left l.words l.initial.heads l.initial.links) l.initial.owed)))
+    (fitting (table l.numbers.edition) l.numbers.kind 0 (cut 0 (drop 0 s))) l.heads l.links l.owed l.left l.before l.back (drop l.at s)
 
 abbrev pub decreases-loop-at : goal.decreases-loop-at
 decreases-loop-at l = l.size - l.at

@@ -1,4 +1,6 @@
 -- `survey::holders::held_blocks` meets its contract: the index is what the walk asks for.
+use Rattle.std.proofs.Common.{Bool, sym, subst}
+use Rattle.survey.specs.Holders.{Indexed}
 use Rattle.survey.proofs.Building.{built_none}
 use Rattle.survey.proofs.Flags.{told_indexed}
 use Rattle.survey.proofs.holders.held_blocks.Goals as goal
@@ -8,10 +10,9 @@ index-tally-requires c = let t = c in (t.used_top-top.ensures.0, t.used_top-top.
 
 pub put_flags-requires : goal.put_flags-requires
 put_flags-requires c =
-    let i = c in
-    let r = i.index-tally.result in
-    let w = i.args.words.now in
-    told_indexed w i.index-tally.new.heads i.index-tally.new.links r.low r.used r.fine i.index-tally.ensures
+    let i = c.index-tally in
+    let w = c.args.words.now in
+    subst (λ (b : Bool). Indexed w b i.new.heads i.new.links) (sym c.is_some.ensures) (told_indexed w i.new.heads i.new.links i.result i.ensures)
 
 pub returns : goal.returns
 returns c = c.put_flags.ensures

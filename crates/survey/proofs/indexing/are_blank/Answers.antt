@@ -20,8 +20,8 @@ returns-then-serial_in-ne0 c e = absurd (false≢true e)
 pub loop-i-init : goal.loop-i-init
 loop-i-init c = (omega arith, λ e j l. absurd (omega arith))
 
-pub overflow_mul-count : goal.overflow_mul-count
-overflow_mul-count c = let s = c in omega (arith, s.requires)
+pub overflow_mul-i-end : goal.overflow_mul-i-end
+overflow_mul-i-end c = let s = c in omega (arith, s.requires)
 
 pub overflow_mul-bits : goal.overflow_mul-bits
 overflow_mul-bits c = let s = c in omega (arith, s.requires)
@@ -37,12 +37,6 @@ offset_bounds-words-from c = let s = c in omega (arith, s.requires, c.loop-i-tes
 
 pub bounds-words-from : goal.bounds-words-from
 bounds-words-from c = let s = c in omega (arith, s.requires, c.loop-i-test.true)
-
-pub overflow_add-i : goal.overflow_add-i
-overflow_add-i c = let s = c in omega (arith, s.requires, c.loop-i-test.true)
-
-pub loop-i-smaller : goal.loop-i-smaller
-loop-i-smaller c = omega (arith, c.loop-i-test.true)
 
 -- bits that come to none
 none : (a b : ℕ) → bit_or a b ≡ 0 → (a ≡ 0) × (b ≡ 0)

@@ -1,4 +1,4 @@
-use Rattle.std.proofs.Common.{◌≡◌, ℕ, ◌+◌, ◌<◌, Bool, false, sym, ap, ◌∙◌, subst, arith}
+use Rattle.std.proofs.Common.{◌≡◌, ℕ, ◌+◌, ◌<◌, false, sym, ap, ◌∙◌, subst, arith}
 use borrow.Author.Tests.{not-true, not-false}
 use Rattle.accounts.specs.Accounts.{HOLDS, zero_hold}
 use Rattle.lists.specs.Lists.{all}
@@ -7,7 +7,6 @@ use Rattle.audit.proofs.Tables.{all_fails}
 use Rattle.audit.proofs.Records.{well_blank, well_possible}
 use Rattle.words.specs.Words.{serial_in, hold_in, holds_of}
 use Rattle.words.proofs.Words.{holds_long, holds_at}
-use Rattle.survey.specs.Clauses.{Told}
 use Rattle.survey.proofs.Passes.{Passed, passed_start, passed_blank, passed_used, passed_all}
 use Rattle.survey.proofs.indexing.index.Goals as goal
 use Rattle.survey.proofs.indexing.index.Goals.{After-is_blank, After-is_possible, After-serial_in-serial, Else-serial-eq0, In-loop-i}
@@ -54,27 +53,13 @@ ill c e =
 pub is_blank-requires : goal.is_blank-requires
 is_blank-requires c = inside (goal.at.is_blank-requires c).In-loop-i
 
--- an answer that says no
-abbrev Says : After-serial_in-serial → ℕ → ℕ → Bool → Type 0
-Says c low used t = Told c.args.words.now t c.loop-i.heads c.loop-i.links low used
-
 pub returns-then-not-is_blank : goal.returns-then-not-is_blank
 returns-then-not-is_blank c =
-    let b = c in
-    let k = b in
-    let r = c.ill_formed.result in
-    subst (Says (goal.at.returns-then-not-is_blank c).After-serial_in-serial r.low r.used) (sym c.ill_formed.ensures)
-    (ill (goal.at.returns-then-not-is_blank c).After-serial_in-serial (blank-tests (goal.at.returns-then-not-is_blank c).After-is_blank ∙ not-true _
-    c.if-not-is_blank.true-raw))
+    let p = goal.at.returns-then-not-is_blank c in
+    ill p.After-serial_in-serial (blank-tests p.After-is_blank ∙ not-true _ c.if-not-is_blank.true-raw)
 
 pub overflow_add-blank : goal.overflow_add-blank
 overflow_add-blank c = let t = c in omega (arith, inside (goal.at.overflow_add-blank c).In-loop-i, t.loop-i.invariant.counted)
-
-pub overflow_add-i : goal.overflow_add-i
-overflow_add-i c = omega (arith, inside (goal.at.overflow_add-i c).In-loop-i)
-
-pub loop-i-smaller-then-serial-eq0 : goal.loop-i-smaller-then-serial-eq0
-loop-i-smaller-then-serial-eq0 c = omega (arith, c.loop-i-test.true)
 
 pub loop-i-preserved-then-serial-eq0 : goal.loop-i-preserved-then-serial-eq0
 loop-i-preserved-then-serial-eq0 c =
@@ -83,7 +68,7 @@ loop-i-preserved-then-serial-eq0 c =
     let t = k in
     let l = t.loop-i in
     let z = sym k.serial_in-serial.ensures ∙ b.if-serial-eq0.true in
-    subst (λ (x : ℕ). Passed k.args.words.now l.heads l.links t.args.top (l.i + 1) x (l.blank + 1)) (sym c.lower-low.ensures)
+    subst (λ (x : ℕ). Passed k.args.words.now l.heads l.links t.args.top (l.i + 1) x (l.blank + 1)) (sym c.min-low.ensures)
     (passed_blank l.invariant t.loop-i-test.true (blank-tests (goal.at.loop-i-preserved-then-serial-eq0 c).After-is_blank ∙ not-false _
     c.if-not-is_blank.false-raw) z)
 
@@ -92,24 +77,14 @@ is_possible-requires c = inside (goal.at.is_possible-requires c).In-loop-i
 
 pub returns-then-not-is_possible : goal.returns-then-not-is_possible
 returns-then-not-is_possible c =
-    let b = c in
-    let k = b in
-    let r = c.ill_formed-then-not-is_possible.result in
-    subst (Says (goal.at.returns-then-not-is_possible c).After-serial_in-serial r.low r.used) (sym c.ill_formed-then-not-is_possible.ensures)
-    (ill (goal.at.returns-then-not-is_possible c).After-serial_in-serial
-    (possible-tests (goal.at.returns-then-not-is_possible c).After-is_possible ∙ not-true _ c.if-not-is_possible.true-raw))
+    let p = goal.at.returns-then-not-is_possible c in
+    ill p.After-serial_in-serial (possible-tests p.After-is_possible ∙ not-true _ c.if-not-is_possible.true-raw)
 
 pub enter-requires : goal.enter-requires
 enter-requires c =
     let e = c in
     let t = e in
     (inside (goal.at.enter-requires c).In-loop-i, some-serial (goal.at.enter-requires c).Else-serial-eq0, t.loop-i.invariant.built)
-
-pub overflow_add-i-else-serial-eq0 : goal.overflow_add-i-else-serial-eq0
-overflow_add-i-else-serial-eq0 c = omega (arith, inside (goal.at.overflow_add-i-else-serial-eq0 c).In-loop-i)
-
-pub loop-i-smaller : goal.loop-i-smaller
-loop-i-smaller c = omega (arith, c.loop-i-test.true)
 
 pub loop-i-preserved : goal.loop-i-preserved
 loop-i-preserved c =

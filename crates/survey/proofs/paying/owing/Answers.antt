@@ -14,12 +14,6 @@ loop-i-init c = tallied_start (quotas_of c.args.words.now) c.requires
 pub bounds-owed-i : goal.bounds-owed-i
 bounds-owed-i c = let t = c in omega (arith, t.loop-i-test.true, t.loop-i.invariant.long)
 
-pub overflow_add-i : goal.overflow_add-i
-overflow_add-i c = let t = c in omega (arith, t.loop-i-test.true)
-
-pub loop-i-smaller : goal.loop-i-smaller
-loop-i-smaller c = let t = c in omega (arith, t.loop-i-test.true)
-
 pub loop-i-preserved : goal.loop-i-preserved
 loop-i-preserved c =
     let w = c in
@@ -38,7 +32,7 @@ loop-i-preserved c =
     tallied_more l.loop-i.invariant (quotas_long ws) t.loop-i-test.true
     (c.short_at-short.ensures ∙ (λ j. cond (ltb (grant j) (remainder j)) 1 l.loop-i.short))
     (or_mod l.loop-i.bits p.spare_in-spare.result 8 ∙ ap (bit_or (l.loop-i.bits % 256)) permissions)
-    (λ h. omega (arith, w.due_of-due.ensures, grant, remainder))
+    (λ h. omega (arith, w.saturating_sub-due.ensures, grant, remainder))
 
 pub returns-then-short-ne0 : goal.returns-then-short-ne0
 returns-then-short-ne0 c =

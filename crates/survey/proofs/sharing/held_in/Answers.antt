@@ -48,12 +48,6 @@ shared_at-shared-requires c = let p = c.requires in (c.loop-i-test.true, p.0, p.
 pub overflow_add-shared : goal.overflow_add-shared
 overflow_add-shared c = let n = next-shared c in omega (arith, n.few, c.loop-i-test.true)
 
-pub overflow_add-i : goal.overflow_add-i
-overflow_add-i c = omega (arith, c.loop-i-test.true)
-
-pub loop-i-smaller : goal.loop-i-smaller
-loop-i-smaller c = omega (arith, c.loop-i-test.true)
-
 pub loop-i-preserved : goal.loop-i-preserved
 loop-i-preserved c = (next-own (goal.at.loop-i-preserved c).After-own_at-objects, next-shared c)
 

@@ -1,6 +1,5 @@
 -- `survey::sharing::held_in` meets its contract. The loop's invariant: the records before place `i` were counted.
-use Rattle.std.proofs.Common.{◌-◌}
-use Rattle.accounts.specs.Accounts.{HOLDS, zero_hold}
+use Rattle.accounts.specs.Accounts.{zero_hold}
 use Rattle.words.specs.Words.{holds_of}
 use Rattle.survey.specs.Shares.{is_own, is_shared}
 use Rattle.survey.proofs.Counting.{Counted}
@@ -10,6 +9,3 @@ abbrev pub invariant-loop-i : goal.invariant-loop-i
 invariant-loop-i l =
     Counted (is_own l.quota) (holds_of l.words) zero_hold l.i l.objects × Counted (is_shared (holds_of l.words) l.quota) (holds_of l.words) zero_hold l.i
     l.shared
-
-abbrev pub decreases-loop-i : goal.decreases-loop-i
-decreases-loop-i l = HOLDS - l.i

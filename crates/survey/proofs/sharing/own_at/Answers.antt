@@ -4,17 +4,11 @@ use Rattle.survey.specs.Shares.{one_if}
 use Rattle.survey.proofs.Owning.{own_unused, own_yes, own_no}
 use Rattle.survey.proofs.sharing.own_at.Goals as goal
 
-pub serial_in-requires : goal.serial_in-requires
-serial_in-requires c = c.requires.0
-
 pub returns-then-serial_in-eq0 : goal.returns-then-serial_in-eq0
 returns-then-serial_in-eq0 c =
     let s = c in
     let a = s.args in
     sym (ap one_if (own_unused a.words.now s.requires.1 a.quota a.at s.requires.0 (sym c.serial_in.ensures ∙ c.if-serial_in-eq0.true)))
-
-pub quota_in-requires : goal.quota_in-requires
-quota_in-requires c = c.requires.0
 
 pub returns-then-quota_in-quota : goal.returns-then-quota_in-quota
 returns-then-quota_in-quota c =

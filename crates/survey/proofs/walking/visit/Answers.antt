@@ -11,43 +11,32 @@ pub returns-then-before-eq0 : goal.returns-then-before-eq0
 returns-then-before-eq0 c =
     let s = c in
     let a = s.args in
-    visit_behind (table a.edition) a.kind a.last a.serial a.size (a.whole - a.after) a.before
+    visit_behind (table a.numbers.edition) a.numbers.kind a.numbers.last a.serial a.size (a.whole - a.after) a.before
     s.requires.0 c.if-serial-eq0.true c.if-before-eq0.true
 
 pub returns-then-serial-eq0 : goal.returns-then-serial-eq0
 returns-then-serial-eq0 c =
     let s = c in
     let a = s.args in
-    visit_apart (table a.edition) a.kind a.last a.serial a.size (a.whole - a.after) a.before
+    visit_apart (table a.numbers.edition) a.numbers.kind a.numbers.last a.serial a.size (a.whole - a.after) a.before
     s.requires.0 c.if-serial-eq0.true c.if-before-eq0.false
 
-pub returns-then-last-serial : goal.returns-then-last-serial
-returns-then-last-serial c =
+pub returns-then-numbers-serial : goal.returns-then-numbers-serial
+returns-then-numbers-serial c =
     let s = c in
     let a = s.args in
-    visit_above (table a.edition) a.kind a.last a.serial a.size (a.whole - a.after) a.before
-    s.requires.0 c.if-last-serial.true c.is_waiting.result
+    visit_above (table a.numbers.edition) a.numbers.kind a.numbers.last a.serial a.size (a.whole - a.after) a.before
+    s.requires.0 c.if-numbers-serial.true c.is_waiting.result
     c.is_waiting.ensures
-
-pub overflow_sub-whole : goal.overflow_sub-whole
-overflow_sub-whole c = c.requires.6
-
-pub is_fitting-requires : goal.is_fitting-requires
-is_fitting-requires c = let p = c.requires in (p.2, p.3, p.4, p.5)
 
 pub returns-then-not-is_fitting : goal.returns-then-not-is_fitting
 returns-then-not-is_fitting c =
     let f = c in
     let s = f in
     let a = s.args in
-    visit_unfit (table a.edition) a.kind a.last a.serial a.size (a.whole - a.after) a.before
+    visit_unfit (table a.numbers.edition) a.numbers.kind a.numbers.last a.serial a.size (a.whole - a.after) a.before
     s.requires.0 f.if-serial-eq0.false
-    (λ e. omega (arith, f.if-last-serial.false, s.requires.1)) (sym f.is_fitting.ensures ∙ not-true _ c.if-not-is_fitting.true-raw)
-
-pub settle-requires : goal.settle-requires
-settle-requires c =
-    let e = c in
-    (e.if-serial-eq0.false, e.requires.0)
+    (λ e. omega (arith, f.if-numbers-serial.false, s.requires.1)) (sym f.is_fitting.ensures ∙ not-true _ c.if-not-is_fitting.true-raw)
 
 pub returns : goal.returns
 returns c =
@@ -57,8 +46,8 @@ returns c =
     let s = e in
     let a = s.args in
     let r = c.settle in
-    visit_settled (table a.edition) a.kind a.last a.serial a.size (a.whole - a.after) a.before
+    visit_settled (table a.numbers.edition) a.numbers.kind a.numbers.last a.serial a.size (a.whole - a.after) a.before
     s.requires.0 e.if-serial-eq0.false
-    (λ q. omega (arith, f.if-last-serial.false, s.requires.1)) (sym f.is_fitting.ensures ∙ not-false _ u.if-not-is_fitting.false-raw)
-    (omega (arith, f.if-last-serial.false))
+    (λ q. omega (arith, f.if-numbers-serial.false, s.requires.1)) (sym f.is_fitting.ensures ∙ not-false _ u.if-not-is_fitting.false-raw)
+    (omega (arith, f.if-numbers-serial.false))
     r.result r.new.heads r.new.links r.new.owed r.new.left r.ensures

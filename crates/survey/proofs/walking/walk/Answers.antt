@@ -2,13 +2,12 @@ use Rattle.std.proofs.Common.{◌≡◌, ℕ, ◌-◌, ◌*◌, ◌<◌, ◌≤�
 use Rattle.std.proofs.Common.{rules}
 use borrow.Author.Tests.{not-true, not-false}
 use borrow.Author.Rules.{part_to_end}
-use mathlib.Core.Bool.{false≢true}
 use Rattle.rounding.specs.Rounding.{table}
 use Rattle.layout.specs.Blocks.{header_at, cut}
 use Rattle.audit.specs.Fitting.{fitting}
 use Rattle.lookup.specs.Walk.{headed, has_room}
 use Rattle.survey.specs.Index.{keys_left}
-use Rattle.survey.specs.Clauses.{Visited, judged, WalkedTo}
+use Rattle.survey.specs.Clauses.{Visited, judged}
 use Rattle.survey.proofs.Walks.{Walking, walking_start, walking_long, walking_back, walking_fails, walking_on, suffix_start, suffix_on}
 use Rattle.survey.proofs.Walks.{walked_far, one_fails}
 use Rattle.survey.specs.Route.{TAKEN, Reaches, Passed}
@@ -30,16 +29,16 @@ pub loop-rest-init : goal.loop-rest-init
 loop-rest-init c =
     let s = c in
     let a = s.args in
-    let z = part_to_end a.heap.now a.at in
+    let z = part_to_end a.heap.now a.from.at in
     let i = s.requires.4.inside in
-    let same : a.at ≡ length a.heap.now - length (drop a.at a.heap.now) = omega (arith, i, length-drop a.at a.heap.now) in (
-      walking_start (table a.edition) a.kind a.last a.heap.now s.requires.4 a.units a.serial_before z,
+    let same : a.from.at ≡ length a.heap.now - length (drop a.from.at a.heap.now) = omega (arith, i, length-drop a.from.at a.heap.now) in (
+      walking_start (table a.numbers.edition) a.numbers.kind a.numbers.last a.heap.now s.requires.4 a.from.back a.from.before z,
       suffix_start a.heap.now i z,
       λ r.
-          subst (λ (x : ℕ). Passed a.heap.now a.edge a.unit a.at a.fit_before a.need_before x a.units a.serial_before a.fit_before
-          a.need_before)
+          subst (λ (x : ℕ). Passed a.heap.now a.edge a.unit a.from.at a.from.fit a.from.need x a.from.back a.from.before a.from.fit
+          a.from.need)
           (same ∙ ap (λ (t : List ℕ). length a.heap.now - length t) (sym z))
-          (passed_start a.edge a.unit a.units a.serial_before a.fit_before a.need_before r),
+          (passed_start a.edge a.unit a.from.back a.from.before a.from.fit a.from.need r),
     )
 
 read : (c : After-header_at-header) → header_at 0 c.loop-rest.rest.now ≡ c.header_at-header.result
@@ -51,39 +50,17 @@ some-rest c = omega (arith, c.loop-rest-test.true, c.requires.1)
 pub overflow_mul-size : goal.overflow_mul-size
 overflow_mul-size c = omega (arith, c.header_at-header.ensures.1)
 
-abbrev Says : After-header_at-header → ℕ → ℕ → ℕ → List ℕ → List ℕ → List ℕ → ℕ → Bool → Type 0
-Says c at back before heads links owed left t =
-    let a = c.args in
-    WalkedTo (table a.edition) a.kind a.last a.edge a.heap.now a.words.now
-    (judged (table a.edition) a.kind a.last a.at (cut a.units (drop a.at a.heap.now)) a.serial_before
-    (keys_left a.words.now a.heads.now a.links.now) a.owed.now)
-    t at back before heads links owed left
-
 pub returns-then-rest-size : goal.returns-then-rest-size
 unfolding judged
 returns-then-rest-size c =
-    let h = c in
-    let l = h.loop-rest in
-    let r = c.failed.result in (
-      subst (Says (goal.at.returns-then-rest-size c).After-header_at-header r.at r.back r.before l.heads l.links l.owed l.left) (sym c.failed.ensures)
-          (one_fails _ _ (walking_long l.invariant.0 (read (goal.at.returns-then-rest-size c).After-header_at-header)
-          (some-rest (goal.at.returns-then-rest-size c).After-header_at-header) c.if-rest-size.true)),
-      λ e. absurd (false≢true (sym c.failed.ensures ∙ e)),
-    )
+    let h = (goal.at.returns-then-rest-size c).After-header_at-header in
+    one_fails _ _ (walking_long c.loop-rest.invariant.0 (read h) (some-rest h) c.if-rest-size.true)
 
 pub returns-then-header-back : goal.returns-then-header-back
 unfolding judged
 returns-then-header-back c =
-    let f = c in
-    let h = f in
-    let l = h.loop-rest in
-    let r = c.failed-then-header-back.result in (
-      subst (Says (goal.at.returns-then-header-back c).After-header_at-header r.at r.back r.before l.heads l.links l.owed l.left)
-          (sym c.failed-then-header-back.ensures)
-          (one_fails _ _ (walking_back l.invariant.0 (read (goal.at.returns-then-header-back c).After-header_at-header)
-          (some-rest (goal.at.returns-then-header-back c).After-header_at-header) f.if-rest-size.false (λ e. omega (arith, c.if-header-back.true)))),
-      λ e. absurd (false≢true (sym c.failed-then-header-back.ensures ∙ e)),
-    )
+    let h = (goal.at.returns-then-header-back c).After-header_at-header in
+    one_fails _ _ (walking_back c.loop-rest.invariant.0 (read h) (some-rest h) c.if-rest-size.false (λ e. omega (arith, c.if-header-back.true)))
 
 pub visit-requires : goal.visit-requires
 visit-requires c =
@@ -115,7 +92,7 @@ Answers c t =
     let l = c.loop-rest in
     let h = c.header_at-header.result in
     let v = c.visit.new in
-    Visited (table a.edition) a.kind a.last h.serial (8 * h.size) (length a.heap.now - length (after c)) l.before
+    Visited (table a.numbers.edition) a.numbers.kind a.numbers.last h.serial (8 * h.size) (length a.heap.now - length (after c)) l.before
     a.words.now l.heads l.links l.owed t v.heads v.links v.owed v.left
 
 visited : (c : After-visit) (t : Bool) → c.visit.result ≡ t → Answers c t
@@ -124,19 +101,11 @@ visited c t e = subst (Answers c) e c.visit.ensures
 pub returns-then-not-visit : goal.returns-then-not-visit
 unfolding judged
 returns-then-not-visit c =
-    let v = c in
-    let h = v in
-    let l = h.loop-rest in
-    let r = c.failed-then-not-visit.result in
-    let w = v.visit.new in (
-      subst (Says (goal.at.returns-then-not-visit c).After-header_at-header r.at r.back r.before w.heads w.links w.owed w.left)
-          (sym c.failed-then-not-visit.ensures)
-          (walking_fails l.invariant.0 (read (goal.at.returns-then-not-visit c).After-header_at-header)
-          (some-rest (goal.at.returns-then-not-visit c).After-header_at-header) v.if-rest-size.false (beyond (goal.at.returns-then-not-visit c).After-visit)
-          (same_back (goal.at.returns-then-not-visit c).After-visit)
-          (visited (goal.at.returns-then-not-visit c).After-visit false (not-true _ c.if-not-visit.true-raw))),
-      λ e. absurd (false≢true (sym c.failed-then-not-visit.ensures ∙ e)),
-    )
+    let p = goal.at.returns-then-not-visit c in
+    let h = p.After-header_at-header in
+    let v = p.After-visit in
+    walking_fails c.loop-rest.invariant.0 (read h) (some-rest h) c.if-rest-size.false (beyond v) (same_back v)
+    (visited v false (not-true _ c.if-not-visit.true-raw))
 
 abbrev after_2 : Else-not-visit → List ℕ
 after_2 c = take (length c.loop-rest.rest.now - 8 * c.header_at-header.result.size) (drop (8 * c.header_at-header.result.size) c.loop-rest.rest.now)
@@ -147,7 +116,7 @@ Answers_2 c t =
     let l = c.loop-rest in
     let h = c.header_at-header.result in
     let v = c.visit.new in
-    Visited (table a.edition) a.kind a.last h.serial (8 * h.size) (length a.heap.now - length (after_2 c)) l.before
+    Visited (table a.numbers.edition) a.numbers.kind a.numbers.last h.serial (8 * h.size) (length a.heap.now - length (after_2 c)) l.before
     a.words.now l.heads l.links l.owed t v.heads v.links v.owed v.left
 
 visited_2 : (c : Else-not-visit) (t : Bool) → c.visit.result ≡ t → Answers_2 c t
@@ -207,15 +176,15 @@ Again c fit need =
     let a = h.args in
     let l = v.visit.new in
     let n = h.header_at-header.result in
-    Walking (table a.edition) a.kind a.last a.heap.now a.words.now
-    (Whole a.heap.now a.last a.at a.units a.serial_before
+    Walking (table a.numbers.edition) a.numbers.kind a.numbers.last a.heap.now a.words.now
+    (Whole a.heap.now a.numbers.last a.from.at a.from.back a.from.before
     (keys_left a.words.now a.heads.now a.links.now) a.owed.now)
-    (fitting (table a.edition) a.kind a.at (cut a.units (drop a.at a.heap.now)))
+    (fitting (table a.numbers.edition) a.numbers.kind a.from.at (cut a.from.back (drop a.from.at a.heap.now)))
     l.heads l.links l.owed l.left
     n.serial n.size (after_2 c)
     × (after_2 c ≡ drop (length a.heap.now - length (after_2 c)) a.heap.now)
-    × (Reaches a.heap.now a.at
-    → Passed a.heap.now a.edge a.unit a.at a.fit_before a.need_before
+    × (Reaches a.heap.now a.from.at
+    → Passed a.heap.now a.edge a.unit a.from.at a.from.fit a.from.need
     (length a.heap.now - length (after_2 c)) n.size n.serial fit need)
 
 read_2 : (c : Else-not-visit) → header_at 0 c.loop-rest.rest.now ≡ c.header_at-header.result
@@ -245,62 +214,53 @@ again e room x y z =
     )
 
 -- a live block has no room
-pub loop-rest-smaller-then-serial-ne0 : goal.loop-rest-smaller-then-serial-ne0
-loop-rest-smaller-then-serial-ne0 c = shorter (goal.at.loop-rest-smaller-then-serial-ne0 c).Else-not-visit
+pub loop-rest-smaller : goal.loop-rest-smaller
+loop-rest-smaller c = shorter (goal.at.loop-rest-smaller c).Else-not-visit
 
-pub loop-rest-preserved-then-serial-ne0 : goal.loop-rest-preserved-then-serial-ne0
-loop-rest-preserved-then-serial-ne0 c =
-    let h = c in
-    again (goal.at.loop-rest-preserved-then-serial-ne0 c).Else-not-visit false
-    (sym (full h.args.unit h.loop-rest.need
-    (length h.args.heap.now - length h.loop-rest.rest.now) h.header_at-header.result c.if-serial-ne0.true))
+pub loop-rest-preserved : goal.loop-rest-preserved
+loop-rest-preserved c =
+    let l = c.loop-rest in
+    again (goal.at.loop-rest-preserved c).Else-not-visit false
+    (sym (full c.args.unit l.need (length c.args.heap.now - length l.rest.now) c.header_at-header.result c.if-serial-eq0.false))
     refl refl
 
 -- a free one may have
 pub overflow_sub-end : goal.overflow_sub-end
 overflow_sub-end c = part (goal.at.overflow_sub-end c).Else-not-visit
 
-pub is_roomy-room-requires : goal.is_roomy-room-requires
-is_roomy-room-requires c =
-    let v = c in
-    let h = v in
-    let p = h.requires in (
-      p.2,
-      p.3,
-      (answer (goal.at.is_roomy-room-requires c).Else-not-visit).0,
-      omega (
-        arith,
-        ap length (beyond (goal.at.is_roomy-room-requires c).After-visit) ∙ length-drop (8 * h.header_at-header.result.size) h.loop-rest.rest.now,
-        h.loop-rest.invariant.0.inside,
-        v.if-rest-size.false,
-      ),
-      omega (arith, h.header_at-header.ensures.1),
-    )
-
-pub overflow_sub-end-else-serial-ne0 : goal.overflow_sub-end-else-serial-ne0
-overflow_sub-end-else-serial-ne0 c =
-    let v = c in
-    let h = v in
+-- the block's size, and the heap's bytes up to its end
+up-to : (c : Else-not-visit) → 8 * c.header_at-header.result.size ≤ length c.args.heap.now - length (after_2 c)
+up-to c =
     omega (
       arith,
-      ap length (beyond (goal.at.overflow_sub-end-else-serial-ne0 c).After-visit) ∙ length-drop (8 * h.header_at-header.result.size)
-          h.loop-rest.rest.now,
-      h.loop-rest.invariant.0.inside,
-      v.if-rest-size.false,
+      ap length (beyond_2 c) ∙ length-drop (8 * c.header_at-header.result.size) c.loop-rest.rest.now,
+      c.loop-rest.invariant.0.inside,
+      c.if-rest-size.false,
     )
 
-pub loop-rest-smaller : goal.loop-rest-smaller
-loop-rest-smaller c = shorter (goal.at.loop-rest-smaller c).Else-not-visit
+pub is_roomy-requires : goal.is_roomy-requires
+is_roomy-requires c =
+    let e = (goal.at.is_roomy-requires c).Else-not-visit in
+    (c.requires.2, c.requires.3, (answer e).0, up-to e, omega (arith, c.header_at-header.ensures.1))
 
-pub loop-rest-preserved : goal.loop-rest-preserved
-loop-rest-preserved c =
-    let i = c in
-    let e = i in
-    let h = e in
-    let l = h.loop-rest in
-    again (goal.at.loop-rest-preserved c).Else-not-visit i.is_roomy-room.result
-    (i.is_roomy-room.ensures ∙ room_same h.args.unit l.need h.header_at-header.result (ends (goal.at.loop-rest-preserved c).Else-not-visit))
-    (c.chosen-fit.ensures ∙ ap (λ (x : ℕ). cond i.is_roomy-room.result x l.fit) (ends (goal.at.loop-rest-preserved c).Else-not-visit)) c.chosen-need.ensures
+pub overflow_sub-fit : goal.overflow_sub-fit
+overflow_sub-fit c = up-to (goal.at.overflow_sub-fit c).Else-not-visit
+
+pub loop-rest-smaller-then-is_roomy : goal.loop-rest-smaller-then-is_roomy
+loop-rest-smaller-then-is_roomy c = shorter (goal.at.loop-rest-smaller-then-is_roomy c).Else-not-visit
+
+pub loop-rest-preserved-then-is_roomy : goal.loop-rest-preserved-then-is_roomy
+loop-rest-preserved-then-is_roomy c =
+    let e = (goal.at.loop-rest-preserved-then-is_roomy c).Else-not-visit in
+    again e true (sym c.if-is_roomy.true ∙ c.is_roomy.ensures ∙ room_same c.args.unit c.loop-rest.need c.header_at-header.result (ends e)) (ends e) refl
+
+pub loop-rest-smaller-else-is_roomy : goal.loop-rest-smaller-else-is_roomy
+loop-rest-smaller-else-is_roomy c = shorter (goal.at.loop-rest-smaller-else-is_roomy c).Else-not-visit
+
+pub loop-rest-preserved-else-is_roomy : goal.loop-rest-preserved-else-is_roomy
+loop-rest-preserved-else-is_roomy c =
+    let e = (goal.at.loop-rest-preserved-else-is_roomy c).Else-not-visit in
+    again e false (sym c.if-is_roomy.false ∙ c.is_roomy.ensures ∙ room_same c.args.unit c.loop-rest.need c.header_at-header.result (ends e)) refl refl
 
 pub overflow_sub-result : goal.overflow_sub-result
 overflow_sub-result c = c.loop-rest.invariant.0.inside
@@ -309,4 +269,4 @@ pub returns : goal.returns
 unfolding judged
 returns c =
     let l = c.loop-rest in
-    (walked_far l.invariant.0 l.invariant.1 (search rules), λ e r. l.invariant.2 r)
+    (walked_far l.invariant.0 l.invariant.1 (search rules), l.invariant.2)

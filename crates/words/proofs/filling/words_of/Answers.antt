@@ -34,8 +34,8 @@ returns c =
     let s = w in
     let k = s.args.accounts in
     let t = packs (goal.at.returns c).Start in
-    let rest = 256 * e.wide-high.result + w.wide-low.result in
-    let is : rest ≡ 256 * k.edition + k.kind = (λ i. 256 * e.wide-high.ensures.0 i + w.wide-low.ensures.0 i) in
+    let rest = 256 * e.from-high.result + w.from-low.result in
+    let is : rest ≡ 256 * k.edition + k.kind = (λ i. 256 * e.from-high.ensures i + w.from-low.ensures i) in
     let f = finished_filled k q.put_quotas.new.words c.put_holds.new.words rest is q.put_quotas.ensures c.put_holds.ensures in
     record {
       is = filled_same (words_filled k t.quotas t.holds) f;

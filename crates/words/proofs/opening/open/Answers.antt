@@ -1,4 +1,3 @@
-use borrow.Author.Rules.{rules}
 use mathlib.Core.Path.{◌∙◌}
 use Rattle.words.specs.Words.{accounts_of}
 use Rattle.words.proofs.Padding.{unpadded_on, blank_unpadded}
@@ -8,7 +7,7 @@ use Rattle.words.proofs.opening.open.Goals as goal
 pub loop-i-init : goal.loop-i-init
 loop-i-init c =
     let b = c.wipe.ensures in
-    (search rules, granting_start c.args.grants _ (blank_zero _ b), blank_unpadded b)
+    (granting_start c.args.grants _ (blank_zero _ b), blank_unpadded b)
 
 pub loop-i-preserved : goal.loop-i-preserved
 loop-i-preserved c =
@@ -16,9 +15,8 @@ loop-i-preserved c =
     let at = n in
     let a = at.args in
     let l = at.loop-i in (
-      search rules,
-      granting_more a.grants l.i (accounts_of l.words) _ l.invariant.1 n.loop-i-test.true c.put_grant.ensures.holds,
-      unpadded_on l.invariant.2 c.put_grant.ensures.pads,
+      granting_more a.grants l.i (accounts_of l.words) _ l.invariant.0 n.loop-i-test.true c.put_grant.ensures.holds,
+      unpadded_on l.invariant.1 c.put_grant.ensures.pads,
     )
 
 pub returns : goal.returns
@@ -32,7 +30,7 @@ returns c =
     let l = at.loop-i in
     record {
       holds = c.put_kinds.ensures.holds
-          ∙ granting_all a.grants s.well_formed.1.0.1.0.1 l.i (accounts_of l.words) l.invariant.1 p.loop-i-test.false a.settings
+          ∙ granting_all a.grants s.well_formed.1.0.1.0.1 l.i (accounts_of l.words) l.invariant.0 p.loop-i-test.false a.settings
           k.number.result e.number-2.result k.number.ensures e.number-2.ensures;
-      pads = unpadded_on l.invariant.2 c.put_kinds.ensures.pads;
+      pads = unpadded_on l.invariant.1 c.put_kinds.ensures.pads;
     }

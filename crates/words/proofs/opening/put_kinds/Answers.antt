@@ -1,4 +1,5 @@
 -- `words::put_kinds` meets its contract.
+use native.Mathlib.Omega.{arith}
 use Rattle.words.proofs.Openings.{put_kinds_is}
 use Rattle.words.proofs.opening.put_kinds.Goals as goal
 
@@ -9,8 +10,8 @@ returns c =
     let k = l in
     let a = k.args in
     record {
-      holds = rw c.word_at-spare.ensures (put_kinds_is a.words.now k.count.ensures.0 a.kind a.edition l.wide-low.result h.wide-high.result l.wide-low.ensures.0
-          h.wide-high.ensures.0 l.wide-low.ensures.1 h.wide-high.ensures.1).0;
-      pads = rw c.word_at-spare.ensures (put_kinds_is a.words.now k.count.ensures.0 a.kind a.edition l.wide-low.result h.wide-high.result l.wide-low.ensures.0
-          h.wide-high.ensures.0 l.wide-low.ensures.1 h.wide-high.ensures.1).1;
+      holds = rw c.word_at-spare.ensures (put_kinds_is a.words.now c.told-words a.kind a.edition l.from-low.result h.from-high.result l.from-low.ensures
+          h.from-high.ensures (omega arith) (omega arith)).0;
+      pads = rw c.word_at-spare.ensures (put_kinds_is a.words.now c.told-words a.kind a.edition l.from-low.result h.from-high.result l.from-low.ensures
+          h.from-high.ensures (omega arith) (omega arith)).1;
     }

@@ -18,11 +18,11 @@ returns c =
     let a = k.args in
     record {
       holds =
-          rw c.word_at-spare.ensures (put_quota_is a.words.now k.count.ensures.0 a.q a.quota (omega (arith, e.if-q-ge-QUOTAS.false)) w.wide-permissions.result
-          w.wide-permissions.ensures.0
-          w.wide-permissions.ensures.1).0;
+          rw c.word_at-spare.ensures (put_quota_is a.words.now c.told-words a.q a.quota (omega (arith, e.if-q-ge-QUOTAS.false)) w.from-permissions.result
+          w.from-permissions.ensures
+          (omega arith)).0;
       pads =
-          rw c.word_at-spare.ensures (put_quota_is a.words.now k.count.ensures.0 a.q a.quota (omega (arith, e.if-q-ge-QUOTAS.false)) w.wide-permissions.result
-          w.wide-permissions.ensures.0
-          w.wide-permissions.ensures.1).1;
+          rw c.word_at-spare.ensures (put_quota_is a.words.now c.told-words a.q a.quota (omega (arith, e.if-q-ge-QUOTAS.false)) w.from-permissions.result
+          w.from-permissions.ensures
+          (omega arith)).1;
     }

@@ -30,9 +30,9 @@ returns c =
     let a = k.args in
     record {
       holds =
-          rw w.word_at-remainder.ensures (charges a.words.now a.quota a.amount (omega (arith, e.if-q-ge-QUOTAS.false)) k.count.ensures.0
+          rw w.word_at-remainder.ensures (charges a.words.now a.quota a.amount (omega (arith, e.if-q-ge-QUOTAS.false)) c.told-words
           (omega (arith, c.if-remainder-amount.false, w.word_at-remainder.ensures))).0;
       pads =
-          rw w.word_at-remainder.ensures (charges a.words.now a.quota a.amount (omega (arith, e.if-q-ge-QUOTAS.false)) k.count.ensures.0
+          rw w.word_at-remainder.ensures (charges a.words.now a.quota a.amount (omega (arith, e.if-q-ge-QUOTAS.false)) c.told-words
           (omega (arith, c.if-remainder-amount.false, w.word_at-remainder.ensures))).1;
     }

@@ -21,11 +21,11 @@ returns c =
     let a = k.args in
     record {
       holds =
-          rw c.word_at-spare.ensures (clears a.words.now a.quota a.bits (omega (arith, e.if-q-ge-QUOTAS.false)) k.count.ensures.0 w.wide-left.result
-          w.wide-left.ensures.1
-          (w.wide-left.ensures.0 ∙ l.left_permissions.ensures)).0;
+          rw c.word_at-spare.ensures (clears a.words.now a.quota a.bits (omega (arith, e.if-q-ge-QUOTAS.false)) c.told-words w.from-left.result
+          (omega arith)
+          (w.from-left.ensures ∙ l.left_permissions.ensures)).0;
       pads =
-          rw c.word_at-spare.ensures (clears a.words.now a.quota a.bits (omega (arith, e.if-q-ge-QUOTAS.false)) k.count.ensures.0 w.wide-left.result
-          w.wide-left.ensures.1
-          (w.wide-left.ensures.0 ∙ l.left_permissions.ensures)).1;
+          rw c.word_at-spare.ensures (clears a.words.now a.quota a.bits (omega (arith, e.if-q-ge-QUOTAS.false)) c.told-words w.from-left.result
+          (omega arith)
+          (w.from-left.ensures ∙ l.left_permissions.ensures)).1;
     }

@@ -25,11 +25,11 @@ returns c =
     let a = k.args in
     record {
       holds =
-          rw c.word_at-rest.ensures (puts a.words.now k.count.ensures.0 a.at (omega (arith, e.if-at-ge-HOLDS.false)) a.hold t.wide-times.result
-          w.wide-quota.result
-          t.wide-times.ensures.0 w.wide-quota.ensures.0 t.wide-times.ensures.1 w.wide-quota.ensures.1).0;
+          rw c.word_at-rest.ensures (puts a.words.now c.told-words a.at (omega (arith, e.if-at-ge-HOLDS.false)) a.hold t.from-times.result
+          w.from-quota.result
+          t.from-times.ensures w.from-quota.ensures (omega arith) (omega arith)).0;
       pads =
-          rw c.word_at-rest.ensures (puts a.words.now k.count.ensures.0 a.at (omega (arith, e.if-at-ge-HOLDS.false)) a.hold t.wide-times.result
-          w.wide-quota.result
-          t.wide-times.ensures.0 w.wide-quota.ensures.0 t.wide-times.ensures.1 w.wide-quota.ensures.1).1;
+          rw c.word_at-rest.ensures (puts a.words.now c.told-words a.at (omega (arith, e.if-at-ge-HOLDS.false)) a.hold t.from-times.result
+          w.from-quota.result
+          t.from-times.ensures w.from-quota.ensures (omega arith) (omega arith)).1;
     }

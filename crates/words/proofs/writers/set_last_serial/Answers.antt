@@ -7,6 +7,6 @@ pub returns : goal.returns
 returns c =
     let a = c.args in
     record {
-      holds = put_last a.words.now c.count.ensures.0 a.serial;
+      holds = put_last a.words.now c.told-words a.serial;
       pads = padded_last a.words.now a.serial;
     }

@@ -12,17 +12,17 @@ returns-in_default c = sym (room_nothing _ _ (sym c.start_at.ensures ∙ c.in_de
 pub returns-then-header-ne0 : goal.returns-then-header-ne0
 returns-then-header-ne0 c =
     let a = c.args in
-    let h = c.in-Block.header in
-    sym (room_starts a.at a.heap.now h (sym c.start_at.ensures ∙ c.in-Block.is) ∙ rw (ne_eqb h.serial 0 c.if-header-ne0.true))
+    let h = c.in-Some.header in
+    sym (room_starts a.at a.heap.now h (sym c.start_at.ensures ∙ c.in-Some.is) ∙ rw (ne_eqb h.serial 0 c.if-header-ne0.true))
 
 pub overflow_mul-result : goal.overflow_mul-result
 overflow_mul-result c =
     let a = c.args in
-    let l = (start_found a.at a.heap.now c.in-Block.header (sym c.start_at.ensures ∙ c.in-Block.is)).inside in
+    let l = (start_found a.at a.heap.now c.in-Some.header (sym c.start_at.ensures ∙ c.in-Some.is)).inside in
     omega arith
 
 pub returns : goal.returns
 returns c =
     let a = c.args in
-    let h = c.in-Block.header in
-    sym (room_starts a.at a.heap.now h (sym c.start_at.ensures ∙ c.in-Block.is) ∙ rw (eq-eqb h.serial 0 c.if-header-ne0.false))
+    let h = c.in-Some.header in
+    sym (room_starts a.at a.heap.now h (sym c.start_at.ensures ∙ c.in-Some.is) ∙ rw (eq-eqb h.serial 0 c.if-header-ne0.false))

@@ -1,5 +1,5 @@
 -- The quotas, the last serial, the records, the kind and the edition are put one after the other; each leaves what was put before it.
-use mathlib.Core.Path.{refl, ap, ◌∙◌}
+use mathlib.Core.Path.{ap, ◌∙◌}
 use native.Mathlib.Omega.{arith}
 use Rattle.accounts.specs.declared.Accounts.{Accounts}
 use Rattle.words.proofs.Padding.{unpadded_on}
@@ -12,7 +12,7 @@ use Rattle.image.proofs.in_place.reading.put_accounts.Goals as goal
 pub put_entries-requires : goal.put_entries-requires
 put_entries-requires c =
     let b = c in
-    (b.requires.quotas, λ (f : Form). ap (λ (k : Accounts). k.quotas) (b.put_blank.ensures.holds f))
+    (b.requires.quotas, ap (λ (k : Accounts). k.quotas) (b.put_blank.ensures.holds b.args.form))
 
 pub entry_at-requires : goal.entry_at-requires
 entry_at-requires c = c.requires.quotas
@@ -26,7 +26,7 @@ put_records-requires c =
       s.requires.records,
       omega (arith, c.entry_at.ensures.1, s.requires.quotas),
       λ (f : Form).
-          ap (λ (k : Accounts). k.holds) l.set_last_serial.ensures.holds ∙ ap (λ (k : Accounts). k.holds) (e.put_entries.ensures.holds s.args.form refl)
+          ap (λ (k : Accounts). k.holds) l.set_last_serial.ensures.holds ∙ ap (λ (k : Accounts). k.holds) (e.put_entries.ensures.holds)
           ∙ ap (λ (k : Accounts). k.holds) (b.put_blank.ensures.holds f),
     )
 
@@ -48,7 +48,7 @@ returns c =
     record {
       holds = accounts_read f (stream_of a.image.now) _ p.entry_at.result p.entry_at.ensures.0
           (ap (λ (x : Accounts). x.quotas) k ∙ ap (λ (x : Accounts). x.quotas) h ∙ ap (λ (x : Accounts). x.quotas) n
-          ∙ ap (λ (x : Accounts). x.quotas) (e.put_entries.ensures.holds f refl))
+          ∙ ap (λ (x : Accounts). x.quotas) (e.put_entries.ensures.holds))
           (ap (λ (x : Accounts). x.last_serial) k ∙ ap (λ (x : Accounts). x.last_serial) h ∙ ap (λ (x : Accounts). x.last_serial) n
           ∙ l.read_quad.ensures)
           (ap (λ (x : Accounts). x.holds) k ∙ ap (λ (x : Accounts). x.holds) h)

@@ -9,7 +9,6 @@ use Rattle.words.specs.Words.{accounts_of}
 use Rattle.words.proofs.Padding.{padded_same, padded_on}
 use Rattle.words.specs.Opening.{with_quota}
 use Rattle.framing.specs.Frames.{stream_of}
-use Rattle.image_model.specs.declared.Form.{Form}
 use Rattle.image_model.specs.Items.{each}
 use Rattle.image_model.specs.Stream.{blank, entry_width}
 use Rattle.image_model.specs.Reading.{entry_of}
@@ -22,13 +21,10 @@ pub loop-i-init : goal.loop-i-init
 unfolding each
 loop-i-init c =
     let s = c in
-    (omega arith, λ (f : Form) e. ap (λ (qs : List Quota). with_quotas qs (accounts_of s.args.words.now)) (s.requires.1 f), padded_same s.args.words.now)
+    (ap (λ (qs : List Quota). with_quotas qs (accounts_of s.args.words.now)) s.requires.1, padded_same s.args.words.now)
 
 pub read_entry-quota-requires : goal.read_entry-quota-requires
 read_entry-quota-requires c = omega (arith, c.entry_at.ensures.1)
-
-pub loop-i-smaller : goal.loop-i-smaller
-loop-i-smaller c = omega arith
 
 pub loop-i-preserved : goal.loop-i-preserved
 unfolding blank opened
@@ -39,23 +35,22 @@ loop-i-preserved c =
     let s = p in
     let a = s.args in
     let t = stream_of a.image.now in
+    let f = a.form in
     let x = r.read_entry-quota.result in (
-      omega arith,
-      λ (f : Form) e.
-          c.put_quota.ensures.holds ∙ ap (with_quota l.i x) (l.invariant.1 f e)
+      c.put_quota.ensures.holds ∙ ap (with_quota l.i x) (l.invariant.0)
           ∙ ap (λ (qs : List Quota). with_quotas qs (accounts_of a.words.now))
           (read_more (entry_of f) (entry_width f) l.i (drop 12 t) (Read f l.i a.image.now) (blank f).quotas x zero_quota (omega arith) refl
-          (r.read_entry-quota.ensures f e
-          ∙ ap (λ (y : List ℕ). entry_of f (take (entry_width f) y)) (entry_place f a.full e t l.i p.entry_at.result p.entry_at.ensures.0))),
-      padded_on l.invariant.2 c.put_quota.ensures.pads,
+          (r.read_entry-quota.ensures
+          ∙ ap (λ (y : List ℕ). entry_of f (take (entry_width f) y)) (entry_place f t l.i p.entry_at.result p.entry_at.ensures.0))),
+      padded_on l.invariant.1 c.put_quota.ensures.pads,
     )
 
 pub returns : goal.returns
 returns c =
     let l = c.loop-i in
     let a = c.args in
-    let e : l.i ≡ a.count = omega arith in
+    let e : l.i ≡ a.form.quotas = omega arith in
     record {
-      holds = λ (f : Form) g. l.invariant.1 f g ∙ ap (λ (n : ℕ). with_quotas (Read f n a.image.now) (accounts_of a.words.now)) e;
-      pads = l.invariant.2;
+      holds = l.invariant.0 ∙ ap (λ (n : ℕ). with_quotas (Read a.form n a.image.now) (accounts_of a.words.now)) e;
+      pads = l.invariant.1;
     }

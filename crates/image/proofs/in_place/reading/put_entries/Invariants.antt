@@ -1,6 +1,6 @@
--- The invariant: the first `i` quotas are read and the others blank (`read_more`). The measure is what is left of them.
+-- The invariant: the first `i` quotas are read and the others blank (`read_more`).
 use mathlib.Core.Path.{◌≡◌}
-use Prim.Native.Nat.{ℕ, ◌-◌, ◌≤◌}
+use Prim.Native.Nat.{ℕ}
 use mathlib.Core.List.{List, ◌++◌}
 use lib.ListN.{drop}
 use Rattle.accounts.specs.declared.Quota.{Quota}
@@ -19,8 +19,4 @@ Read f i image = each (entry_of f) (entry_width f) i (drop 12 (stream_of image))
 
 abbrev pub invariant-loop-i : goal.invariant-loop-i
 invariant-loop-i l =
-    (l.i ≤ l.count) × ((f : Form) → f.full ≡ l.full → accounts_of l.words ≡ with_quotas (Read f l.i l.image) (accounts_of l.initial.words)) × Padded
-    l.initial.words l.words
-
-abbrev pub decreases-loop-i : goal.decreases-loop-i
-decreases-loop-i l = l.count - l.i
+    (accounts_of l.words ≡ with_quotas (Read l.form l.i l.image) (accounts_of l.initial.words)) × Padded l.initial.words l.words

@@ -21,10 +21,7 @@ pub loop-i-init : goal.loop-i-init
 unfolding each
 loop-i-init c =
     let s = c in
-    (omega arith, λ (f : Form). ap (λ (hs : List Hold). with_holds hs (accounts_of s.args.words.now)) (s.requires.2 f), padded_same s.args.words.now)
-
-pub loop-i-smaller : goal.loop-i-smaller
-loop-i-smaller c = omega arith
+    (λ (f : Form). ap (λ (hs : List Hold). with_holds hs (accounts_of s.args.words.now)) (s.requires.2 f), padded_same s.args.words.now)
 
 pub loop-i-preserved : goal.loop-i-preserved
 unfolding blank opened put_hold
@@ -34,13 +31,12 @@ loop-i-preserved c =
     let a = r.args in
     let t = stream_of a.image.now in
     let x = r.read_record-hold.result in (
-      omega arith,
       λ (f : Form).
-          c.put_hold.ensures.holds ∙ ap (put_hold l.i x) (l.invariant.1 f)
+          c.put_hold.ensures.holds ∙ ap (put_hold l.i x) (l.invariant.0 f)
           ∙ ap (λ (hs : List Hold). with_holds hs (accounts_of a.words.now))
           (read_more record_of record_width l.i (drop a.at t) (Read f a.at l.i a.image.now) (blank f).holds x zero_hold (omega arith) refl
           (r.read_record-hold.ensures ∙ ap (λ (y : List ℕ). record_of (take 8 y)) (sym (drop-drop (l.i * 8) a.at t)))),
-      padded_on l.invariant.2 c.put_hold.ensures.pads,
+      padded_on l.invariant.1 c.put_hold.ensures.pads,
     )
 
 pub returns : goal.returns
@@ -49,6 +45,6 @@ returns c =
     let a = c.args in
     let e : l.i ≡ a.count = omega arith in
     record {
-      holds = λ (f : Form). l.invariant.1 f ∙ ap (λ (n : ℕ). with_holds (Read f a.at n a.image.now) (accounts_of a.words.now)) e;
-      pads = l.invariant.2;
+      holds = λ (f : Form). l.invariant.0 f ∙ ap (λ (n : ℕ). with_holds (Read f a.at n a.image.now) (accounts_of a.words.now)) e;
+      pads = l.invariant.1;
     }

@@ -1,6 +1,6 @@
--- The invariant: the first `i` records are read and the others blank (`read_more`). The measure is what is left of them.
+-- The invariant: the first `i` records are read and the others blank (`read_more`).
 use mathlib.Core.Path.{◌≡◌}
-use Prim.Native.Nat.{ℕ, ◌-◌, ◌≤◌}
+use Prim.Native.Nat.{ℕ}
 use mathlib.Core.List.{List, ◌++◌}
 use lib.ListN.{drop}
 use Rattle.accounts.specs.declared.Hold.{Hold}
@@ -18,8 +18,5 @@ abbrev pub Read : Form → ℕ → ℕ → List ℕ → List Hold
 Read f at i image = each record_of record_width i (drop at (stream_of image)) ++ drop i (blank f).holds
 
 abbrev pub invariant-loop-i : goal.invariant-loop-i
-invariant-loop-i l = (l.i ≤ l.count) × ((f : Form) → accounts_of l.words ≡ with_holds (Read f l.at l.i l.image) (accounts_of l.initial.words))
+invariant-loop-i l = ((f : Form) → accounts_of l.words ≡ with_holds (Read f l.at l.i l.image) (accounts_of l.initial.words))
     × Padded l.initial.words l.words
-
-abbrev pub decreases-loop-i : goal.decreases-loop-i
-decreases-loop-i l = l.count - l.i

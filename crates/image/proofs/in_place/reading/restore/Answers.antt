@@ -6,7 +6,7 @@ use lib.ListN.{drop}
 use borrow.Author.Tests.{not-true, not-false}
 use Rattle.accounts.specs.declared.Accounts.{Accounts}
 use Rattle.framing.specs.Frames.{padded, stream_of}
-use Rattle.image_model.specs.declared.ReadAnswer.TheVariants.{Restored}
+use Rattle.std.specs.Prelude.{Ok}
 use Rattle.image_model.specs.Answers.{restored_to}
 use Rattle.image_model.specs.Images.{own_consistent}
 use Rattle.image_model.specs.Reading.{accounts_of as accounts_said}
@@ -70,7 +70,7 @@ returns c =
     let h = v.heap_at-from in
     let there = w.copy_stream.new.out in
     record {
-      holds = ap (λ (k : Accounts). restored_to there k Restored) v.put_accounts.ensures.holds
+      holds = ap (λ (k : Accounts). restored_to there k (Ok tt)) v.put_accounts.ensures.holds
           ∙ restore_done s.args.form s.args.size (stream (goal.at.returns c).Start) s.args.heap.now (said (goal.at.returns c).Start) v.if-heap-size.false
           h.result h.ensures.0
           v.is_consistent_in.result there (told (goal.at.returns c).After-is_consistent_in) (not-false _ p.if-not-is_consistent_in.false-raw)

@@ -1,8 +1,11 @@
 -- The tests are the definition's, in its order (`Puts`).
 use mathlib.Core.Path.{◌∙◌}
 use mathlib.Core.List.{◌++◌}
+use mathlib.Core.Bool.{cond}
+use lib.ListN.{replicate}
 use borrow.Author.Tests.{not-true, not-false}
 use Rattle.layout.specs.Bytes.{bytes}
+use Rattle.image_model.specs.Stream.{form_2}
 use Rattle.words.specs.Words.{accounts_of}
 use Rattle.image.proofs.Puts.{carried_full, carried_grants, carried_records, carried_permissions, carried_marks}
 use Rattle.image.proofs.in_place.writing.is_carried.Goals as goal
@@ -37,6 +40,7 @@ returns-then-not-are_permitted c =
     (not-true _ c.if-not-are_permitted.true-raw)
 
 pub returns : goal.returns
+unfolding form_2
 returns c =
     let e = c in
     let d = e in
@@ -48,4 +52,4 @@ returns c =
     (not-false _ u.if-not-no_grants.false-raw)
     u.none_used.result u.none_used.ensures (not-false _ p.if-not-none_used.false-raw) p.are_permitted.result p.are_permitted.ensures
     (not-false _ d.if-not-are_permitted.false-raw) c.marks.result
-    (c.marks.ensures.0 ∙ (λ i. bytes 1 (e.edition.ensures i) ++ bytes 1 (d.kind.ensures i))) c.marks.ensures.1
+    (c.marks.ensures.0 ∙ (λ i. cond (c.form_2.ensures i).full (bytes 1 (e.edition.ensures i) ++ bytes 1 (d.kind.ensures i)) (replicate 2 0))) c.marks.ensures.1

@@ -18,11 +18,11 @@ put_image-requires c =
     let v = t in
     let a = v.args in
     let w = check_accounted (table (edition_of a.words.now)) a.heap.now (accounts_of a.words.now) v.verdict_on.result
-    v.verdict_on.ensures t.in-Accepted.is in
+    v.verdict_on.ensures t.in-Ok.is in
     (form_1_fits c.form_1.result c.form_1.ensures, allowed_most (length a.heap.now) w.0)
 
-pub returns-in-Accepted : goal.returns-in-Accepted
-returns-in-Accepted c =
+pub returns-in-Ok : goal.returns-in-Ok
+returns-in-Ok c =
     let p = c in
     let f = p in
     let t = f in
@@ -31,12 +31,12 @@ returns-in-Accepted c =
     p.put_image.ensures
     ∙ ap (λ (x : Form). put_image x a.image.now a.heap.now (accounts_of a.words.now)) f.form_1.ensures
     ∙ write_accepted form_1 a.image.now a.heap.now (accounts_of a.words.now) v.verdict_on.result v.verdict_on.ensures
-    t.in-Accepted.is
+    t.in-Ok.is
 
-pub returns-in-Refused : goal.returns-in-Refused
-returns-in-Refused c =
+pub returns-in-Err : goal.returns-in-Err
+returns-in-Err c =
     let r = c in
     let v = r in
     let a = v.args in
     write_refused form_1 a.image.now a.heap.now (accounts_of a.words.now) v.verdict_on.result v.verdict_on.ensures
-    r.in-Refused.refusal r.in-Refused.is
+    r.in-Err.refusal r.in-Err.is

@@ -1,50 +1,55 @@
 -- `queries::by_value::step_from` meets its contract: the block that the listing gives ends in the heap, and where none is given the place stays.
-use mathlib.Core.Path.{◌≡◌, refl}
-use mathlib.Core.List.{[], ◌∷◌}
-use mathlib.Core.Logic.{⊎_elim}
-use mathlib.Core.Option.{none}
+use Rattle.std.specs.Prelude.{Option, Some, None, Result, Ok, Err}
+use mathlib.Core.Path.{◌≡◌, refl, ap, subst, sym, ◌∙◌}
 use Prim.Native.Nat.{◌+◌, ◌≤◌}
 use native.Mathlib.Omega.{arith}
 use lib.ListN.{length}
-use types.Run.{OneOf}
-use borrow.Enum.Refused.{opened}
-use denote.Enum.Declared.{tag_of}
 use Rattle.rounding.specs.Rounding.{table}
-use Rattle.model.specs.declared.BlockAnswer.{BlockAnswer}
-use Rattle.model.specs.declared.BlockAnswer.TheVariants.{Listed, NoBlock, Refused}
-use Rattle.model.specs.contracts.BlockAnswer as S
+use Rattle.model.specs.declared.ListedBlock.{ListedBlock}
+use Rattle.model.specs.declared.Refusal.{Refusal}
 use Rattle.model.specs.Answers.{block_values}
 use Rattle.queries.specs.Listing.{Stepped}
 use Rattle.queries.proofs.Listed.{after_some, after_none}
 use Rattle.queries.proofs.by_value.walker.step_from.Goals as goal
-use Rattle.queries.proofs.by_value.walker.step_from.Goals.{After-struct_known-1}
+use Rattle.queries.proofs.by_value.walker.step_from.Goals.{In-Ok-Some}
 
--- an answer that is not the first variant lists no block
-unlisted : (r : BlockAnswer) → OneOf (1 ∷ 2 ∷ []) (tag_of S.the_type r) → (block_values r).block ≡ none
-unfolding block_values
-unlisted (Listed b) h = ⊎_elim (λ e. absurd (omega arith)) (λ e. absurd (omega arith)) h
-unlisted NoBlock h = refl
-unlisted (Refused x) h = refl
+-- the answer that lists a block
+listed : (c : In-Ok-Some) → c.list_from-answer.result ≡ Ok (Some c.in-Ok-Some.block)
+listed c = let f = rw c.in-Ok-Some.is at c.in-Ok-Some.field-0-is in c.in-Ok-Some.is ∙ ap Ok f
 
-pub returns-in_default : goal.returns-in_default
-returns-in_default c =
-    let a = c.args in
-    let g = c.list_block-answer in
-    after_none (table a.accounts.edition) a.heap.now a.accounts a.at g.result g.ensures (unlisted g.result (opened c.in_default.in_default-own.keys2))
-
--- the block that was given
-given : (c : After-struct_known-1)
+-- the block ends in the heap, and the place behind it is the next
+given : (c : In-Ok-Some)
     → let a = c.args in
-    let b = c.in-Listed.block in
-    (b.offset + b.size ≤ length a.heap.now) × Stepped (table a.accounts.edition) a.heap.now a.accounts a.at (Listed b) (b.offset + b.size)
+    let b = c.in-Ok-Some.block in
+    (b.offset + b.size ≤ length a.heap.now) × Stepped (table a.accounts.edition) a.heap.now a.accounts a.at (Ok (Some b)) (b.offset + b.size)
 given c =
     let a = c.args in
-    let g = c.list_block-answer in
-    after_some (table a.accounts.edition) a.heap.now a.accounts a.at g.result g.ensures c.in-Listed.block
-    c.in-Listed.is
+    let g = c.list_from-answer in
+    after_some (table a.accounts.edition) a.heap.now a.accounts a.at g.result g.ensures c.in-Ok-Some.block (listed c)
 
 pub overflow_add-result : goal.overflow_add-result
-overflow_add-result c = let l = (given c).0 in omega arith
+overflow_add-result c = let l = (given (goal.at.overflow_add-result c).In-Ok-Some).0 in omega arith
 
-pub returns : goal.returns
-returns c = (given c).1
+pub returns-in-Ok-Some : goal.returns-in-Ok-Some
+returns-in-Ok-Some c =
+    let a = c.args in
+    let b = c.in-Ok-Some.block in
+    subst (λ (r : Result (Option ListedBlock) Refusal). Stepped (table a.accounts.edition) a.heap.now a.accounts a.at r (b.offset + b.size))
+    (sym (listed (goal.at.returns-in-Ok-Some c).In-Ok-Some)) (given (goal.at.returns-in-Ok-Some c).In-Ok-Some).1
+
+pub returns-in-Ok-None : goal.returns-in-Ok-None
+unfolding block_values
+returns-in-Ok-None c =
+    let a = c.args in
+    let g = c.list_from-answer in
+    let f = rw c.in-Ok-None.is at c.in-Ok-None.field-0-is in
+    after_none (table a.accounts.edition) a.heap.now a.accounts a.at g.result g.ensures
+    (ap (λ (r : Result (Option ListedBlock) Refusal). (block_values r).block) (c.in-Ok-None.is ∙ ap Ok f))
+
+pub returns-in-Err : goal.returns-in-Err
+unfolding block_values
+returns-in-Err c =
+    let a = c.args in
+    let g = c.list_from-answer in
+    after_none (table a.accounts.edition) a.heap.now a.accounts a.at g.result g.ensures
+    (ap (λ (r : Result (Option ListedBlock) Refusal). (block_values r).block) c.in-Err.is)

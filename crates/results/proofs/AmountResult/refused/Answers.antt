@@ -1,6 +1,0 @@
--- `results::AmountResult::refused` meets its contract: the result is made of what came in.
-use borrow.Author.Rules.{rules}
-use Rattle.results.proofs.AmountResult.refused.Goals as goal
-
-pub returns : goal.returns
-returns c = search rules
