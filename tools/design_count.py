@@ -111,6 +111,25 @@ def travelling(path, text):
             yield f"{path}:{text[: it.start()].count(chr(10)) + 1} {it[1]}(output, at)"
 
 
+def facts(texts):
+    """What three or more functions of a crate require, a fact each."""
+    for home in sorted({crate(it) for it in texts}):
+        asked = {}
+        for path, text in texts.items():
+            for clause in re.findall(r"requires \{(.*?)\}\s*(?=requires|ensures|\{)", text if crate(path) == home else "", re.S):
+                for fact in {squeezed(it) for it in clause.split(" × ")}:
+                    asked[fact] = asked.get(fact, 0) + 1
+        yield from (f"{home} {fact}, by {number} functions" for fact, number in sorted(asked.items()) if number > 2)
+
+
+def squeezed(fact):
+    """A fact on one line, without the brackets around it and without the point in time of what it is about."""
+    fact = re.sub(r"\.(old|new|now)\b", "", " ".join(fact.split()))
+    while fact.startswith("(") and fact.endswith(")") and fact.count("(") == fact.count(")"):
+        fact = fact[1:-1]
+    return fact
+
+
 # Twins: the functions or constants of each side, by crate and name.
 BY_VALUE = {
     "holding": "claim claim_again claim_first free_all open clear_permissions sweep",
@@ -121,9 +140,9 @@ BY_VALUE = {
 }
 PAIRS = {
     "rounding": "first_unit/second_unit FIRST_POWERS/SECOND_POWERS",
-    "layout": "read_u16/read_u32 read_pair/read_quad write_u16/write_u32 write_pair/write_quad",
-    "accounts": "charged/refunded charge/refund",
-    "words": "charge/refund put_quotas/put_holds quotas_of/holds_of",
+    "layout": "read_u16/read_u32=read read_pair/read_quad write_u16/write_u32=write write_pair/write_quad",
+    "accounts": "charged/refunded charge/refund=change_quota",
+    "words": "charge/refund=change_remainder put_quotas/put_holds quotas_of/holds_of",
     "survey": "walk/walk_frames used_end/one_down failed/lost survey/check_in_frames=begin",
     "writer": "make_free/make_unquarantined=join_neighbours",
     "image": "form_1/form_2 read_entries/read_records write_entries/write_records",
@@ -177,7 +196,7 @@ def wraps(texts, home, both):
     for path, text in texts.items():
         if crate(path) == home:
             for body in re.findall(rf"^pub fn {both[0]}\b.*?^}}", text, re.M | re.S):
-                if "words::words_of(accounts)" in body:
+                if "words::words_of(accounts)" in body or "places::words_of(queue)" in body or f"crate::{both[0]}(heap, &mut words" in body:
                     return True
     return False
 
@@ -188,7 +207,7 @@ POINTS = {
     "1c numbers for kinds and refusals": codes,
     "3 loops that count by hand": loops,
     "4 equality, conversion and printing by hand": by_hand,
-    "5 parameters that travel together": travelling,
+    "5a parameters that travel together": travelling,
     "6 buffers with a length beside them": lengths,
     "7 a bool that chooses the step": steps,
 }
@@ -202,6 +221,7 @@ def main():
     texts = dict(files(commit))
     places = {name: [it for path, text in texts.items() for it in find(path, text)] for name, find in POINTS.items()}
     places["2 twins"] = list(twins(texts))
+    places["5b facts that three or more functions require"] = list(facts(texts))
     for name in sorted(places):
         print(f"{len(places[name]):4}  {name}")
         if listed and name.startswith(point):

@@ -100,6 +100,25 @@ fn front(word: &str) -> &str {
     &word[..end]
 }
 
+/// The type of an `impl` that has parameters of its own, as `impl<T: Copy> Pair<T> {`.
+fn with_parameters(line: &str) -> Option<&str> {
+    let rest = line.strip_prefix("impl<")?;
+    let mut depth = 1;
+    let mut before = ' ';
+    for (at, c) in rest.char_indices() {
+        match c {
+            '<' => depth += 1,
+            '>' if before != '-' => depth -= 1,
+            _ => {}
+        }
+        if depth == 0 {
+            return Some(front(rest[at + 1..].trim_start()));
+        }
+        before = c;
+    }
+    None
+}
+
 struct Reader<'a> {
     file: &'a str,
     found: Vec<Declaration>,
@@ -181,6 +200,11 @@ impl Reader<'_> {
             if line.starts_with('}') {
                 self.owner = None;
                 inside = "";
+                continue;
+            }
+            if let Some(name) = with_parameters(line) {
+                self.owner = Some(name.to_string());
+                inside = "impl";
                 continue;
             }
             let public = code.starts_with("pub ");
@@ -273,6 +297,16 @@ mod tests {
             ("four".to_string(), Kind::ExportedFunction, 4),
         ];
         assert_eq!(told("x/src/lib.rt", text), expected);
+    }
+
+    #[test]
+    fn methods_of_a_type_with_parameters_have_it_as_owner() {
+        let text = "impl<T: Copy, F: Fn(T) -> T> Pair<T, F> {\n    pub fn of() -> Pair<T, F>\n    {\n    }\n}\n";
+        let names: Vec<String> = told("x/src/lib.rt", text)
+            .into_iter()
+            .map(|found| found.0)
+            .collect();
+        assert_eq!(names, ["of", "Pair::of"]);
     }
 
     #[test]

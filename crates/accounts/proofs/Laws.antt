@@ -1,5 +1,5 @@
 -- Laws of the accounting state: the search for a hold record, what charging and refunding do, and what storing a record does.
-use Rattle.std.specs.Prelude.{Some, None}
+use Rattle.std.specs.Prelude.{Option, Some, None, SomeIff, unwrap_or}
 use Prim.Native.Nat.{ℕ, zero, suc, ◌+◌, ◌-◌, ◌^◌, ◌≤◌, ◌<◌}
 use native.Mathlib.Nat.{add-zero}
 use native.Mathlib.Omega.{arith}
@@ -11,7 +11,7 @@ use lib.ListN.{length, get_or, set, length-set, length-map, length-replicate, ge
 use lib.Seq.{get_or-set_same, get_or-set_other, set-set, set-get_or, set_out, map-set_same, ext_get_or}
 use lib.Dec.{ltb}
 use borrow.Author.Count.{below_more}
-use borrow.Author.Tests.{lt-ltb, le-ltb, le-leb, ne_eqb}
+use borrow.Author.Tests.{lt-ltb, le-ltb, lt-leb, le-leb, ne_eqb}
 use Rattle.accounts.specs.declared.Quota.{Quota}
 use Rattle.accounts.specs.declared.Hold.{Hold}
 use Rattle.accounts.specs.declared.Accounts.{Accounts}
@@ -22,6 +22,17 @@ use Rattle.accounts.specs.Accounts.{quota_at, remaining, spent, put_quota, chang
 use Rattle.accounts.specs.Accounts.{without, clear_permissions, used}
 use Rattle.accounts.specs.Accounts.{is_for, first_from, hold_at, put_hold}
 use Rattle.accounts.proofs.Rows
+
+-- what the library's checked difference and sum give where none counts as no change
+pub less_checked : (n r : ℕ) (o : Option ℕ) → SomeIff o (n ≤ r) (r - n) → unwrap_or o r ≡ less_paid n r
+unfolding less_paid
+less_checked n r None h = rw (lt-leb n r (omega (arith, h))) refl
+less_checked n r (Some x) h = rw (le-leb n r h.0) h.1
+
+pub back_checked : (n r : ℕ) (o : Option ℕ) → SomeIff o (r + n < 2 ^ 32) (r + n) → unwrap_or o r ≡ paid_back n r
+unfolding paid_back
+back_checked n r None h = rw (le-ltb (r + n) (2 ^ 32) (omega (arith, h))) refl
+back_checked n r (Some x) h = rw (lt-ltb (r + n) (2 ^ 32) h.0) h.1
 
 -- the first record that passes a test stands at place i
 pub record First (p : Hold → Bool) (hs : List Hold) (i : ℕ) : Type 0 where

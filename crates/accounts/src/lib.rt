@@ -3,18 +3,20 @@
 
 ghost use Rattle.std.specs.Prelude.{◌<◌, ◌≡◌};
 ghost use Rattle.accounts.specs.Accounts.{zero_hold, zero_accounts, granted, begun, charged, refunded, used, dropped, opened};
-ghost use Rattle.accounts.specs.Accounts.{remaining, spent, charge, refund};
-ghost use Rattle.accounts.specs.Accounts.{with_permissions, bit_left, cleared};
+ghost use Rattle.accounts.specs.Accounts.{remaining, spent, change_quota, charge, refund};
+ghost use Rattle.accounts.specs.Accounts.{with_remainder, with_permissions, bit_left, cleared};
 
 mod records;
 mod settings;
 
 pub use settings::{Edition, Kind, Settings};
 
-// The number of quotas.
+// The number of quotas. A quota is named by a number of any size and no type of its own: callers give any, and refusal 3
+// answers what names none.
 pub const QUOTAS: usize = 32;
 
-// The number of hold records.
+// The number of hold records. A place of one is any number too: a loop over `0..HOLDS` gives it, and past them all records
+// are zero.
 pub const HOLDS: usize = 512;
 
 // The greatest number of 32 bits, which a remainder can be.
@@ -47,7 +49,8 @@ pub struct Hold {
     pub count: u8,
 }
 
-// The accounting state. The kind is 0 for a plain heap and 1 for one with quarantine; the edition is 0 for edition 1 of the table of units and 1 for 2.
+// The accounting state. The kind is 0 for a plain heap and 1 for one with quarantine; the edition is 0 for edition 1 of the
+// table of units and 1 for 2. Both are numbers: C lends any byte as one, and refusal 2 answers one that is neither.
 #[repr(C)]
 #[derive(Clone, Copy)]
 pub struct Accounts {
@@ -100,30 +103,11 @@ impl Quota {
         }
     }
 
-    // The quota after it has paid; as it is where it has less than that.
-    fn charged(self, amount: u32) -> Quota
-        ensures { result ≡ charged amount self }
+    // The quota with another remainder.
+    fn with_remainder(self, remainder: u32) -> Quota
+        ensures { result ≡ with_remainder remainder self }
     {
-        if self.remainder < amount {
-            return self;
-        }
-        Quota {
-            remainder: self.remainder - amount,
-            ..self
-        }
-    }
-
-    // The quota after it was paid back; as it is where the sum needs more than 32 bits.
-    fn refunded(self, amount: u32) -> Quota
-        ensures { result ≡ refunded amount self }
-    {
-        if GREATEST_NUMBER - amount < self.remainder {
-            return self;
-        }
-        Quota {
-            remainder: self.remainder + amount,
-            ..self
-        }
+        Quota { remainder, ..self }
     }
 }
 
@@ -228,28 +212,46 @@ impl Accounts {
         entry.grant - entry.remainder
     }
 
-    // A charge and a refund differ in what they do to the quota. One method for both would take that as a closure, which has no plainer contract.
-    // The quota pays; where there is no such quota, or it has less than that, nothing changes.
-    pub fn charge(mut self, quota: u32, amount: u32) -> Accounts
-        ensures { result ≡ charge quota amount self }
+    // A quota is what the function makes of it; where there is no such quota, nothing changes.
+    fn change_quota<F: FnOnce(Quota) -> Quota>(mut self, quota: u32, change: F) -> Accounts
+        requires { F.IsAlwaysCallable change }
+        ensures { (f : Quota → Quota) → ((x y : Quota) → F.post change x y → y ≡ f x) → result ≡ change_quota quota f self }
     {
         let q = quota as usize;
-        if q < QUOTAS {
-            let entry = self.quotas[q];
-            self.quotas[q] = entry.charged(amount);
+        if QUOTAS <= q {
+            return self;
         }
+        self.quotas[q] = change(self.quotas[q]);
         self
     }
 
+    // The quota pays; where there is no such quota, or it has less than that, nothing changes.
+    pub fn charge(self, quota: u32, amount: u32) -> Accounts
+        ensures { result ≡ charge quota amount self }
+    {
+        self.change_quota(
+            quota,
+            |entry|
+                ensures { result ≡ charged amount entry }
+            {
+                let old = entry.remainder;
+                entry.with_remainder(old.checked_sub(amount).unwrap_or(old))
+            },
+        )
+    }
+
     // The quota is paid back; where there is no such quota, or the sum needs more than 32 bits, nothing changes.
-    pub fn refund(mut self, quota: u32, amount: u32) -> Accounts
+    pub fn refund(self, quota: u32, amount: u32) -> Accounts
         ensures { result ≡ refund quota amount self }
     {
-        let q = quota as usize;
-        if q < QUOTAS {
-            let entry = self.quotas[q];
-            self.quotas[q] = entry.refunded(amount);
-        }
-        self
+        self.change_quota(
+            quota,
+            |entry|
+                ensures { result ≡ refunded amount entry }
+            {
+                let old = entry.remainder;
+                entry.with_remainder(old.checked_add(amount).unwrap_or(old))
+            },
+        )
     }
 }

@@ -18,16 +18,12 @@ impl Accounts {
     }
 
     // The quota's permissions are cleared so; where there is no such quota, nothing changes.
-    pub fn clear_permissions(mut self, quota: u32, bits: u32) -> Accounts
+    pub fn clear_permissions(self, quota: u32, bits: u32) -> Accounts
         ensures { result ≡ clear_permissions quota bits self }
     {
-        let q = quota as usize;
-        if q < QUOTAS {
-            let entry = self.quotas[q];
-            let left = cleared(bits, entry.permissions);
-            self.quotas[q] = entry.with_permissions(left);
-        }
-        self
+        self.change_quota(quota, |entry| {
+            entry.with_permissions(cleared(bits, entry.permissions))
+        })
     }
 
     // The accounts with another last serial.

@@ -16,7 +16,7 @@ use Rattle.model.specs.Consistent.{held}
 use Rattle.model.specs.Holds.{with_count}
 use Rattle.writer.specs.Freeing.{Inside, vacate_in}
 use Rattle.writer.proofs.Guards.{inside_test, vacates}
-use Rattle.results.specs.declared.AmountResult.{AmountResult}
+use Rattle.results.specs.Results.{AmountResult}
 use Rattle.results.specs.Results.{amount_outcome}
 use Rattle.results.proofs.Amounts.{gives}
 use Rattle.holding.proofs.Cleared.{allowed_long}

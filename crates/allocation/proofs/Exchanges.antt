@@ -23,8 +23,8 @@ use Rattle.model.specs.declared.Refusal.TheVariants.{NoSuchObject, NotHeld}
 use Rattle.lists.proofs.Lists.{first_some}
 use Rattle.model.proofs.Consistent.{accounted_facts}
 use Rattle.invariant.proofs.Recorded.{Limits}
-use Rattle.results.specs.declared.AmountResult.{AmountResult}
-use Rattle.results.specs.declared.HandleResult.{HandleResult}
+use Rattle.results.specs.Results.{AmountResult}
+use Rattle.results.specs.Results.{HandleResult}
 use Rattle.results.specs.Results.{outcome, amount_outcome, handle_outcome}
 use Rattle.results.proofs.Lookups.{Located, located}
 use Rattle.survey.specs.declared.Wanted.{Wanted}

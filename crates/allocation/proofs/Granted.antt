@@ -29,7 +29,7 @@ use Rattle.writer.proofs.Guards.{room_test, carves}
 use Rattle.rounding.specs.Rounding.{Units, object_length, alignment}
 use Rattle.lookup.specs.declared.Met.{Met}
 use Rattle.lookup.specs.Walk.{find_fit}
-use Rattle.results.specs.declared.HandleResult.{HandleResult}
+use Rattle.results.specs.Results.{HandleResult}
 use Rattle.results.specs.Results.{outcome}
 use Rattle.results.specs.Results.{handle_outcome}
 use Rattle.writer.specs.Carving.{carve_in}

@@ -25,7 +25,7 @@ use Rattle.model.specs.Answers.{verdict_values}
 use Rattle.model.specs.Calls.{check, allocate}
 use Rattle.model.specs.declared.Handle.{Handle}
 use Rattle.model.specs.declared.Refusal.TheVariants.{QuotaExceeded, HoldsExhausted, SerialsExhausted, NoSpace}
-use Rattle.results.specs.declared.HandleResult.{HandleResult}
+use Rattle.results.specs.Results.{HandleResult}
 use Rattle.results.specs.Results.{handle_outcome}
 use Rattle.writer.specs.Carving.{Room, carve_in}
 use Rattle.survey.specs.Survey.{shares, verdict_in}

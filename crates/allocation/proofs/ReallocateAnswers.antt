@@ -21,7 +21,7 @@ use Rattle.lookup.specs.Walk.{object_met, find_object, find_whole}
 use Rattle.lookup.proofs.Reached.{whole_same, whole_found}
 use Rattle.results.proofs.Lines.{refused_is, line_refuses}
 use Rattle.results.proofs.Lookups.{byte_quota, line_5_refuses, line_5_passes, located, unnamed, record_found, record_missing}
-use Rattle.results.specs.declared.HandleResult.{HandleResult}
+use Rattle.results.specs.Results.{HandleResult}
 use Rattle.results.specs.Results.{handle_outcome}
 use Rattle.allocation.specs.Ready.{Checked, Ready}
 use Rattle.allocation.proofs.Ready.{accepted_check, ready_passes}

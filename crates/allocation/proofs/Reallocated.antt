@@ -41,8 +41,8 @@ use Rattle.invariant.proofs.Transitions.{Room, allocated_good, allocated_objects
 use Rattle.invariant.proofs.Passed.{Allocatable, allocate_passed}
 use Rattle.invariant.proofs.Requested.{requested_room, requested_fresh, still_releasable, new_in_units}
 use Rattle.invariant.proofs.Kinded.{Kinded, allocated_kinds, copied_kinds, written_kinds}
-use Rattle.results.specs.declared.HandleResult.{HandleResult}
-use Rattle.results.specs.declared.AmountResult.{AmountResult}
+use Rattle.results.specs.Results.{HandleResult}
+use Rattle.results.specs.Results.{AmountResult}
 use Rattle.results.specs.Results.{outcome}
 use Rattle.results.specs.Results.{amount_outcome}
 use Rattle.results.specs.Results.{handle_outcome}

@@ -16,7 +16,7 @@ use Rattle.lookup.specs.declared.Met.{Met}
 use Rattle.lookup.specs.Walk.{object_met, find_object}
 use Rattle.results.proofs.Lines.{check_refuses, check_accepts, refused_is, accepted_is, line_3_refuses}
 use Rattle.results.proofs.Lookups.{byte_quota, located, quota_missing, release_refuses, release_passes}
-use Rattle.results.specs.declared.AmountResult.{AmountResult}
+use Rattle.results.specs.Results.{AmountResult}
 use Rattle.results.specs.Results.{amount_outcome}
 use Rattle.allocation.specs.Ready.{Checked}
 use Rattle.allocation.specs.Releasing.{claim_dropped}

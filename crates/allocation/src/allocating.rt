@@ -11,8 +11,8 @@ ghost use Rattle.allocation.specs.Asked.{Rounded, Grantable};
 
 use crate::requests::{admitted, given, request};
 use accounts::Hold;
-use lookup::Met;
 use model::{GREATEST_SERIAL, Handle, Refusal};
+use survey::{Known, Wanted};
 use words::WORDS;
 
 // Rules 8.9 and 8.10: a quota pays for a new object and holds it once.
@@ -32,43 +32,41 @@ fn book(words: &mut [u32; WORDS], quota: u8, charge: u32, place: usize, serial: 
     words::charge(words, quota as u32, charge);
 }
 
-// Allocation behind the first four lines: the other refusals in their order, then a quota pays for an object of `size` bytes, which is cut out at a multiple
-// of `unit`. This is the allocation of every request that is rounded to that size and aligned by that unit.
+// Allocation behind the first four lines: the other refusals in their order, then the quota pays for an object of the size that the survey was asked for, which
+// is cut out at a multiple of its unit. This is the allocation of every request that is rounded to that size and aligned by that unit.
 pub(crate) fn grant(
     heap: &mut [u8],
     words: &mut [u32; WORDS],
-    quota: u32,
-    size: usize,
-    unit: u32,
-    unused: Option<usize>,
-    fit: Option<(Met, usize)>,
+    wanted: Wanted,
+    known: Known,
 ) -> Result<Handle, Refusal>
-    requires { Grantable heap.old (accounts_of words.old) quota size unit unused fit }
-    ensures holds { (n : ℕ) → Rounded (edition_of words.old) n size unit
+    requires { Grantable heap.old (accounts_of words.old) wanted.quota wanted.need wanted.unit known.low known.fit }
+    ensures holds { (n : ℕ) → Rounded (edition_of words.old) n wanted.need wanted.unit
         → handle_outcome heap.new (handle_result words.new result)
-        ≡ allocate_of (table (edition_of words.old)) heap.old (accounts_of words.old) quota n }
+        ≡ allocate_of (table (edition_of words.old)) heap.old (accounts_of words.old) wanted.quota n }
     ensures pads { Padded words.old words.new }
     ensures keeps { (t : ℕ) → t ≤ last_of words.old
-        → any (shares t quota) (holds_of words.new) ≡ any (shares t quota) (holds_of words.old) }
+        → any (shares t wanted.quota) (holds_of words.new) ≡ any (shares t wanted.quota) (holds_of words.old) }
 {
-    let length = size as u32;
+    let quota = wanted.quota;
+    let length = wanted.need as u32;
     let charge = length + 8;
     if words::remaining(words, quota) < charge {
         return Err(Refusal::QuotaExceeded);
     }
-    let Some(place) = unused else {
+    let Some(place) = known.low else {
         return Err(Refusal::HoldsExhausted);
     };
     let last = words::last_serial(words);
     if GREATEST_SERIAL <= last {
         return Err(Refusal::SerialsExhausted);
     }
-    let Some((block, base)) = fit else {
+    let Some((block, base)) = known.fit else {
         return Err(Refusal::NoSpace);
     };
     let serial = last + 1;
     book(words, quota as u8, charge, place, serial);
-    writer::carve(heap, block, base, size, serial);
+    writer::carve(heap, block, base, wanted.need, serial);
     given(base, length, serial)
 }
 
@@ -91,15 +89,7 @@ fn allocate_wide(
     let wanted = request(words::edition(words), quota, none, length);
     let surveyed = survey::survey(heap, words, wanted);
     let known = admitted(words, surveyed, quota, length)?;
-    grant(
-        heap,
-        words,
-        quota,
-        wanted.need,
-        wanted.unit,
-        known.low,
-        known.fit,
-    )
+    grant(heap, words, wanted, known)
 }
 
 // A new object of at least `length` bytes.
@@ -116,7 +106,7 @@ pub fn allocate(
     allocate_wide(heap, words, quota, length as u64)
 }
 
-// Rule 8.12: a new object for `count` elements of `size` bytes.
+// Rule 8.12: a new object for `count` elements of `size` bytes. The count is one that C asks for, and no buffer's length.
 pub fn allocate_array(
     heap: &mut [u8],
     words: &mut [u32; WORDS],

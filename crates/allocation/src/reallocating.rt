@@ -42,28 +42,13 @@ fn exchange(
     let Some(place) = known.holder else {
         return Err(Refusal::NotHeld);
     };
-    let granted = grant(
-        heap,
-        words,
-        wanted.quota,
-        wanted.need,
-        wanted.unit,
-        known.low,
-        known.fit,
-    );
+    let granted = grant(heap, words, wanted, known);
     let Ok(new) = granted else {
         return granted;
     };
     let count = (new.length as usize).min(length);
     layout::copy_part(heap, block.at + 8, new.base as usize, count);
-    drop_claim(
-        heap,
-        words,
-        wanted.quota,
-        block.at,
-        place,
-        known.other.is_some(),
-    );
+    drop_claim(heap, words, wanted.quota, block.at, place, known.other);
     granted
 }
 

@@ -1,5 +1,5 @@
 // Release (rules 8.16 to 8.19): a quota gives up one hold, and the block that no quota holds any more becomes free.
-ghost use Rattle.std.specs.Prelude.{◌≡◌, Ok};
+ghost use Rattle.std.specs.Prelude.{◌≡◌, Ok, is_some};
 ghost use Rattle.rounding.specs.Rounding.{table};
 ghost use Rattle.model.specs.Calls.{release as release_of};
 ghost use Rattle.lookup.specs.Walk.{object_met};
@@ -13,17 +13,17 @@ use accounts::{Hold, QUOTAS};
 use model::{Handle, Refusal};
 use words::WORDS;
 
-// One hold of a quota on the block at a place is given up; the last one gives the quota its charge back, and the block of an object that no quota holds is
-// vacated. The amount that was given back is the result.
+// One hold of a quota on the block at a place is given up; the last one gives the quota its charge back, and the block of an object for which no other quota
+// has a record is vacated. The amount that was given back is the result.
 pub(crate) fn drop_claim(
     heap: &mut [u8],
     words: &mut [u32; WORDS],
     quota: u32,
     at: usize,
     place: usize,
-    shared: bool,
+    other: Option<usize>,
 ) -> u32
-    requires { Droppable heap.old (accounts_of words.old) quota (block_at at heap.old) place shared }
+    requires { Droppable heap.old (accounts_of words.old) quota (block_at at heap.old) place (is_some other) }
     ensures holds { amount_outcome heap.new (amount_result words.new (Ok result))
         ≡ claim_dropped heap.old (accounts_of words.old) quota (object_met (block_at at heap.old)) }
     ensures pads { Padded words.old words.new }
@@ -43,6 +43,7 @@ pub(crate) fn drop_claim(
     let charge = length + 8;
     words::refund(words, quota, charge);
     words::drop_hold(words, place);
+    let shared = other.is_some();
     if shared {
         return charge;
     }
@@ -71,6 +72,6 @@ pub fn release(
     let Some(place) = known.holder else {
         return Err(Refusal::NotHeld);
     };
-    let shared = known.other.is_some();
-    Ok(drop_claim(heap, words, quota, block.at, place, shared))
+    let back = drop_claim(heap, words, quota, block.at, place, known.other);
+    Ok(back)
 }

@@ -13,6 +13,7 @@ use words::WORDS;
 const LONGEST: u64 = GREATEST_LENGTH as u64;
 
 // What the survey is asked for: an object, a quota's record for it, and room for a new object where its length is allowed.
+// The edition is a byte, as C lends it: a survey refuses one that is none, and it has not been made yet.
 pub(crate) fn request(edition: u8, quota: u32, handle: Handle, length: u64) -> Wanted
     ensures { Asks edition quota handle length result }
 {

@@ -4,8 +4,9 @@ ghost use Rattle.std.specs.Prelude.{◌≡◌};
 ghost use Rattle.comparison.specs.Differences.{state_in, differences};
 ghost use Rattle.comparison.specs.Positions.{from_byte, from_record, from_quota, from_edition, from_kind, first_of, next_of};
 
-use crate::finding::{find_like, find_quota, find_record, find_unlike};
+use crate::finding::{find_like, find_unlike};
 use crate::{Difference, Position};
+use accounts::{HOLDS, QUOTAS};
 use std::cmp::min;
 
 // The first run of heap bytes from an offset on.
@@ -28,19 +29,20 @@ fn from_record(first: &[u8], second: &[u8], place: usize) -> Option<(Difference,
 {
     let one = image::accounts_in(first);
     let two = image::accounts_in(second);
-    let Some(p) = find_record(one.holds, two.holds, place) else {
+    let Some(p) = (place..HOLDS).find(|p| one.holds[*p] != two.holds[*p]) else {
         return from_byte(first, second, 0);
     };
     Some((Difference::Record(p), Position::Record(p + 1)))
 }
 
-// The first quota from a number on, or what is first behind the quotas.
+// The first quota from a number on, or what is first behind the quotas. This and `from_record` differ in the table, the
+// names and what is behind; one function for both would take a closure for each, and is no plainer.
 fn from_quota(first: &[u8], second: &[u8], number: usize) -> Option<(Difference, Position)>
     ensures { result ≡ first_of (from_quota (state_in first.now) (state_in second.now) number) }
 {
     let one = image::accounts_in(first);
     let two = image::accounts_in(second);
-    let Some(q) = find_quota(one.quotas, two.quotas, number) else {
+    let Some(q) = (number..QUOTAS).find(|q| one.quotas[*q] != two.quotas[*q]) else {
         return from_record(first, second, 0);
     };
     Some((Difference::Quota(q), Position::Quota(q + 1)))

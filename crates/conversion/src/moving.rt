@@ -111,10 +111,8 @@ fn moved(image: &[u8], out: &mut [u8], way: Direction) -> Result<usize, ImageRef
     if form.number != number_from(way) {
         return Err(other_form(shape));
     }
-    match shape {
-        Ok((_, size)) => rewrite(image, out, size, accounts, way),
-        Err(refusal) => Err(refusal),
-    }
+    let (_, size) = shape?;
+    rewrite(image, out, size, accounts, way)
 }
 
 // The image in form 2 of the state that an image of form 1 says, at the front of the lent bytes; the others stay, and all of them where it is refused.

@@ -1,17 +1,19 @@
 -- A reply's numbers say everything: what a reply makes gives it back, so no two make the same. Of a block's reply the
 -- values give it back because it is exact. And the check's outcome is its values, since it changes nothing.
-use Rattle.std.specs.Prelude.{Option, Some, None}
+use Rattle.std.specs.Prelude.{Option, Some, None, Result, Ok, Err}
 use Prim.Native.Nat.{ℕ}
 use mathlib.Core.Path.{◌≡◌, refl, ap, sym, subst⁻¹, ◌∙◌}
 use mathlib.Core.List.{List}
 use Rattle.accounts.specs.declared.Accounts.{Accounts}
+use Rattle.model.specs.declared.Handle.{Handle}
 use Rattle.model.specs.declared.ListedBlock.{ListedBlock}
-use Rattle.model.specs.Answers.{Values, zero_handle, refused}
+use Rattle.model.specs.declared.Refusal.{Refusal}
+use Rattle.model.specs.Answers.{Values, zero_handle, refused, refusal_number, verdict_values, handle_values}
 use Rattle.model.specs.Calls.{check}
 use Rattle.model.proofs.Refusals.{changes_nothing}
 use Rattle.words.specs.Words.{accounts_of}
 use Rattle.results.specs.Results.{outcome}
-use Rattle.exports.specs.HeapReplies.{left, handle_numbers, amount_numbers, range_numbers}
+use Rattle.exports.specs.HeapReplies.{left, number_in, handle_in, handle_numbers, amount_numbers, range_numbers}
 use Rattle.exports.specs.HeapReplies.{block_numbers, found_block, reply_with, Exact}
 use Rattle.exports.specs.declared.replies.HandleReply.{HandleReply}
 use Rattle.exports.specs.declared.replies.AmountReply.{AmountReply}
@@ -46,6 +48,17 @@ pub reply_exact : (n : ℕ) (b : Option ListedBlock) (r : BlockReply) → r ≡ 
 unfolding found_block reply_with
 reply_exact n None r e = subst⁻¹ Exact e refl
 reply_exact n (Some b) r e = subst⁻¹ Exact e refl
+
+-- what the generic number and the generic reply of a handle say, of the refusals of the heap's calls
+pub number_says : (n : ℕ) (a : Result (Unit {0}) Refusal) → n ≡ number_in refusal_number a → refused n ≡ verdict_values a
+unfolding verdict_values
+number_says n (Ok tt) e = ap refused e
+number_says n (Err r) e = ap refused e
+
+pub handle_says : (r : HandleReply) (a : Result Handle Refusal) → r ≡ handle_in refusal_number a → handle_numbers r ≡ handle_values a
+unfolding handle_values
+handle_says r (Ok h) e = ap handle_numbers e
+handle_says r (Err x) e = ap handle_numbers e
 
 -- the values of the check are its whole outcome
 pub check_whole : (unit : ℕ → ℕ) (s : List ℕ) (k : Accounts) (n : ℕ) → refused n ≡ (check unit s k).values

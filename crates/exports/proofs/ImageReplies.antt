@@ -4,7 +4,12 @@ use Prim.Native.Nat.{ℕ, zero, suc, ◌≤◌}
 use native.Mathlib.Omega.{arith}
 use mathlib.Core.Path.{◌≡◌, refl}
 use mathlib.Core.List.{List}
+use Rattle.std.specs.Prelude.{Result, Ok, Err}
+use Rattle.accounts.specs.declared.Accounts.{Accounts}
 use Rattle.words.specs.Words.{accounts_of}
+use Rattle.image_model.specs.declared.ImageRefusal.{ImageRefusal}
+use Rattle.image_model.specs.Answers.{restored_to, image_refusal_number}
+use Rattle.exports.specs.HeapReplies.{number_in}
 use Rattle.exports.specs.declared.images.ImageReply.{ImageReply}
 use Rattle.exports.specs.ImageReplies.{image_reply, read_into, numbers_unless}
 
@@ -27,3 +32,10 @@ pub numbers_refused : (m form length : ℕ) → 1 ≤ m
 unfolding numbers_unless
 numbers_refused zero form length h = absurd (omega arith)
 numbers_refused (suc m) form length h = refl
+
+-- what the generic number says of the reader's refusal
+pub number_says : (s : List ℕ) (k : Accounts) (n : ℕ) (a : Result (Unit {0}) ImageRefusal) → n ≡ number_in image_refusal_number a
+    → record { heap = s; accounts = k; refusal = n } ≡ restored_to s k a
+unfolding restored_to
+number_says s k n (Ok tt) e = λ i. record { heap = s; accounts = k; refusal = e i }
+number_says s k n (Err r) e = λ i. record { heap = s; accounts = k; refusal = e i }

@@ -9,9 +9,9 @@ use Rattle.model.specs.declared.Handle.{Handle}
 use Rattle.model.specs.declared.Refusal.TheVariants.{NotHeld, NotPermitted}
 use Rattle.queue.specs.declared.QueueRefusal.TheVariants.{Damaged, Full, Empty, Heap}
 use Rattle.queue.specs.Places.{queue_of}
-use Rattle.queue.specs.Results.{send_number, receive_number, receive_handle}
+use Rattle.queue.specs.Results.{queue_refusal_number, send_number, receive_number, receive_handle}
 use Rattle.exports.specs.declared.replies.HandleReply.{HandleReply}
-use Rattle.exports.specs.HeapReplies.{no_handle}
+use Rattle.exports.specs.HeapReplies.{number_in, handle_in, no_handle}
 use Rattle.exports.specs.QueueReplies.{sent_in, received_in}
 
 send_rows : map send_number
@@ -23,12 +23,12 @@ send_rows = refl
 some_handle : Handle
 some_handle = record { base = 8; length = 16; serial = 3 }
 
-told : Result Handle QueueRefusal → HandleReply
+abbrev told : Result Handle QueueRefusal → HandleReply
 told a = record { refusal = receive_number a; handle = receive_handle a }
 
 receive_rows : map told (Ok some_handle ∷ Err Empty ∷ Err Damaged ∷ [])
     ≡ record { refusal = 0; handle = some_handle } ∷ no_handle 52 ∷ no_handle 53 ∷ []
-unfolding told receive_number receive_handle
+unfolding receive_number receive_handle
 receive_rows = refl
 
 pub sent_in_injective : (s t w x p q : List ℕ) (m n : ℕ) → sent_in s w p m ≡ sent_in t x q n
@@ -38,3 +38,14 @@ sent_in_injective s t w x p q m n e = (λ i. (e i).heap, λ i. (e i).accounts, �
 pub received_in_injective : (p q : List ℕ) (a b : HandleReply) → received_in p a ≡ received_in q b
     → (queue_of p ≡ queue_of q) × (a ≡ b)
 received_in_injective p q a b e = (λ i. (e i).queue, λ i. record { refusal = (e i).refusal; handle = (e i).handle })
+
+-- what the generic number and the generic reply of a handle say, of a queue's refusals
+pub number_says : (n : ℕ) (a : Result (Unit {0}) QueueRefusal) → n ≡ number_in queue_refusal_number a → n ≡ send_number a
+unfolding send_number
+number_says n (Ok tt) e = e
+number_says n (Err r) e = e
+
+pub handle_says : (r : HandleReply) (a : Result Handle QueueRefusal) → r ≡ handle_in queue_refusal_number a → r ≡ told a
+unfolding receive_number receive_handle
+handle_says r (Ok h) e = e
+handle_says r (Err x) e = e

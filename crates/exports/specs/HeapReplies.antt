@@ -1,6 +1,6 @@
 -- What the numbers of a heap's replies mean: the values of `model`, and with heap and words at exit the outcome. Values
 -- that a reply has no number for are zero or none.
-use Rattle.std.specs.Prelude.{ℕ, zero, suc, ◌≡◌, List, cond, eqb, Option, Some, None}
+use Rattle.std.specs.Prelude.{ℕ, zero, suc, ◌≡◌, List, cond, eqb, Option, Some, None, Result, Ok, Err}
 use Rattle.accounts.specs.declared.Accounts.{Accounts}
 use Rattle.accounts.specs.declared.settings.Kind.{Kind}
 use Rattle.accounts.specs.declared.settings.Kind.TheVariants.{Plain, Quarantine}
@@ -9,6 +9,7 @@ use Rattle.accounts.specs.declared.settings.Edition.TheVariants.{First, Second}
 use Rattle.accounts.specs.declared.settings.Settings.{Settings}
 use Rattle.rounding.specs.Rounding.{table}
 use Rattle.words.specs.Words.{edition_of, accounts_of}
+use Rattle.model.specs.declared.Handle.{Handle}
 use Rattle.model.specs.declared.ListedBlock.{ListedBlock}
 use Rattle.model.specs.Answers.{Values, zero_handle, zero_range}
 use Rattle.model.specs.Calls.{Outcome}
@@ -44,6 +45,16 @@ handle_numbers r =
 
 abbrev pub no_handle : ℕ → HandleReply
 no_handle n = record { refusal = n; handle = zero_handle }
+
+-- the number of an answer, where f gives the number of a refusal: 0 where there is none
+abbrev pub number_in : {R : Type 0} → (R → ℕ) → Result (Unit {0}) R → ℕ
+number_in f (Ok tt) = 0
+number_in f (Err r) = f r
+
+-- the reply with a handle, or with the number of the refusal in place of one
+abbrev pub handle_in : {R : Type 0} → (R → ℕ) → Result Handle R → HandleReply
+handle_in f (Ok h) = record { refusal = 0; handle = h }
+handle_in f (Err r) = no_handle (f r)
 
 -- claim, release, free-all, clear permissions, sweep and remaining
 abbrev pub amount_numbers : AmountReply → Values

@@ -4,6 +4,7 @@ ghost use Rattle.comparison.specs.Compare.{compared, advanced, compare_of, advan
 ghost use Rattle.exports.specs.ComparisonReplies.{which_number, difference_number, place_number, length_number};
 ghost use Rattle.exports.specs.ComparisonReplies.{compare_reply, position_of, part_number, place_in, next_reply};
 
+use crate::replies::Numbered;
 use comparison::{Difference, Position, Which};
 use image_model::ImageRefusal;
 
@@ -36,31 +37,36 @@ pub struct NextReply {
     pub at: usize,
 }
 
-// The number of the image that a refusal is about.
-fn number_of_which(which: Which) -> u32
-    ensures { result ≡ which_number which }
-{
-    match which {
-        Which::First => 1,
-        Which::Second => 2,
-        Which::Neither => 0,
+impl Numbered for Which {
+    ghost numbered = { which_number };
+
+    // The image that a refusal is about.
+    fn told(self) -> u32 {
+        match self {
+            Which::First => 1,
+            Which::Second => 2,
+            Which::Neither => 0,
+        }
     }
 }
 
-// The numbers of a difference: its kind, its place and its length.
-fn kind_of(difference: Difference) -> u32
-    ensures { result ≡ difference_number difference }
-{
-    match difference {
-        Difference::LastSerial => 1,
-        Difference::Kind => 5,
-        Difference::Edition => 6,
-        Difference::Quota(_) => 2,
-        Difference::Record(_) => 3,
-        Difference::Bytes(_, _) => 4,
+impl Numbered for Difference {
+    ghost numbered = { difference_number };
+
+    // A difference's kind.
+    fn told(self) -> u32 {
+        match self {
+            Difference::LastSerial => 1,
+            Difference::Kind => 5,
+            Difference::Edition => 6,
+            Difference::Quota(_) => 2,
+            Difference::Record(_) => 3,
+            Difference::Bytes(_, _) => 4,
+        }
     }
 }
 
+// The other numbers of a difference: its place and its length.
 fn place_of(difference: Difference) -> usize
     ensures { result ≡ place_number difference }
 {
@@ -95,7 +101,7 @@ fn reply_of_compare(answer: Result<Option<Difference>, (ImageRefusal, Which)>) -
         Ok(Some(difference)) => CompareReply {
             refusal: 0,
             which: 0,
-            kind: kind_of(difference),
+            kind: difference.told(),
             place: place_of(difference),
             length: length_of(difference),
         },
@@ -108,7 +114,7 @@ fn reply_of_compare(answer: Result<Option<Difference>, (ImageRefusal, Which)>) -
         },
         Err((refusal, which)) => CompareReply {
             refusal: refusal.number(),
-            which: number_of_which(which),
+            which: which.told(),
             kind: 0,
             place: 0,
             length: 0,
@@ -117,41 +123,37 @@ fn reply_of_compare(answer: Result<Option<Difference>, (ImageRefusal, Which)>) -
 }
 
 // The position of a part's number and a place in it; a number above 5 is taken as 3.
+#[tactic(auto, unfolding(crate::specs::ComparisonReplies::position_of))]
 fn position_of(part: u32, at: usize) -> Position
     ensures { result ≡ position_of part at }
 {
-    if part == 0 {
-        return Position::Start;
-    }
-    if part == 1 {
-        return Position::Quota(at);
-    }
-    if part == 2 {
-        return Position::Record(at);
-    }
-    if part == 4 {
-        return Position::Kind;
-    }
-    if part == 5 {
-        return Position::Edition;
-    }
-    Position::Byte(at)
-}
-
-// The numbers of a position: its part and the place in it.
-fn part_of(from: Position) -> u32
-    ensures { result ≡ part_number from }
-{
-    match from {
-        Position::Start => 0,
-        Position::Kind => 4,
-        Position::Edition => 5,
-        Position::Quota(_) => 1,
-        Position::Record(_) => 2,
-        Position::Byte(_) => 3,
+    match part {
+        0 => Position::Start,
+        1 => Position::Quota(at),
+        2 => Position::Record(at),
+        4 => Position::Kind,
+        5 => Position::Edition,
+        _ => Position::Byte(at),
     }
 }
 
+impl Numbered for Position {
+    ghost numbered = { part_number };
+
+    // A position's part.
+    fn told(self) -> u32 {
+        match self {
+            Position::Start => 0,
+            Position::Kind => 4,
+            Position::Edition => 5,
+            Position::Quota(_) => 1,
+            Position::Record(_) => 2,
+            Position::Byte(_) => 3,
+        }
+    }
+}
+
+// The place in a position's part.
 fn place_in(from: Position) -> usize
     ensures { result ≡ place_in from }
 {
@@ -173,10 +175,10 @@ fn reply_of_next(answer: Result<Option<(Difference, Position)>, (ImageRefusal, W
         Ok(Some((difference, behind))) => NextReply {
             refusal: 0,
             which: 0,
-            kind: kind_of(difference),
+            kind: difference.told(),
             place: place_of(difference),
             length: length_of(difference),
-            part: part_of(behind),
+            part: behind.told(),
             at: place_in(behind),
         },
         Ok(None) => NextReply {
@@ -190,7 +192,7 @@ fn reply_of_next(answer: Result<Option<(Difference, Position)>, (ImageRefusal, W
         },
         Err((refusal, which)) => NextReply {
             refusal: refusal.number(),
-            which: number_of_which(which),
+            which: which.told(),
             kind: 0,
             place: 0,
             length: 0,

@@ -16,24 +16,26 @@ use accounts::{Edition, Kind, Settings};
 use model::Handle;
 use words::WORDS;
 
-// The kind with a number.
+// The kind with a number. A number: C lends any, and each but 0 is the second kind, which no TryFrom would say.
+#[tactic(auto, unfolding(crate::specs::HeapReplies::kind_by))]
 fn kind_by(number: u32) -> Kind
     ensures { result ≡ kind_by number }
 {
-    if number == 0 {
-        return Kind::Plain;
+    match number {
+        0 => Kind::Plain,
+        _ => Kind::Quarantine,
     }
-    Kind::Quarantine
 }
 
-// The edition with a number.
+// The edition with a number. A number, as above.
+#[tactic(auto, unfolding(crate::specs::HeapReplies::edition_by))]
 fn edition_by(number: u32) -> Edition
     ensures { result ≡ edition_by number }
 {
-    if number == 0 {
-        return Edition::First;
+    match number {
+        0 => Edition::First,
+        _ => Edition::Second,
     }
-    Edition::Second
 }
 
 // What an opening chooses, by two numbers.
@@ -80,7 +82,7 @@ pub extern "C" fn lokhazim_raw_allocate(
     reply_of_handle(allocation::allocate(heap, words, quota, length))
 }
 
-// A new object for `count` elements of `size` bytes.
+// A new object for `count` elements of `size` bytes. Two numbers: C asks for an array by them, as calloc takes them.
 #[unsafe(no_mangle)]
 pub extern "C" fn lokhazim_raw_allocate_array(
     heap: &mut [u8],

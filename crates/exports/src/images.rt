@@ -2,7 +2,7 @@
 ghost use Rattle.std.specs.Prelude.{◌≡◌, ℕ, List};
 ghost use Rattle.accounts.specs.declared.Accounts.{Accounts};
 ghost use Rattle.words.specs.Words.{accounts_of, Unpadded};
-ghost use Rattle.image_model.specs.Answers.{imaged, restored_to};
+ghost use Rattle.image_model.specs.Answers.{imaged, image_refusal_number};
 ghost use Rattle.image_model.specs.Stream.{form_1, form_2};
 ghost use Rattle.image_model.specs.Images.{write_image, read_image, restore_image};
 ghost use Rattle.image.specs.Parsing.{length_for, shape_parts};
@@ -10,6 +10,7 @@ ghost use Rattle.image.specs.Restoring.{Left};
 ghost use Rattle.conversion.specs.Moves.{move_up, move_down};
 ghost use Rattle.exports.specs.ImageReplies.{image_reply, read_into, examine_reply, examine};
 
+use crate::replies::{Numbered, number_of};
 use image_model::{Form, ImageRefusal};
 use words::WORDS;
 
@@ -46,13 +47,11 @@ fn reply_of_write(answer: Result<usize, ImageRefusal>) -> ImageReply
     }
 }
 
-// The reader's refusal as its number, 0 where there is none.
-fn number_of_read(answer: Result<(), ImageRefusal>) -> u32
-    ensures { (s : List ℕ) (k : Accounts) → record { heap = s; accounts = k; refusal = result } ≡ restored_to s k answer }
-{
-    match answer {
-        Ok(()) => 0,
-        Err(refusal) => refusal.number(),
+impl Numbered for ImageRefusal {
+    ghost numbered = { image_refusal_number };
+
+    fn told(self) -> u32 {
+        self.number()
     }
 }
 
@@ -112,7 +111,7 @@ pub extern "C" fn lokhazim_raw_image_resume(
         ≡ read_image image.now heap.old }
     ensures pads { Unpadded words.new }
 {
-    number_of_read(image::in_place::read_image(image, heap, words))
+    number_of(image::in_place::read_image(image, heap, words))
 }
 
 // The same where heap and accounts are in use: where it is refused, every byte and every word stays as it is.
@@ -126,7 +125,7 @@ pub extern "C" fn lokhazim_raw_image_restore(
         ≡ restore_image image.now heap.old (accounts_of words.old) }
     ensures leaves { Left result words.old words.new }
 {
-    number_of_read(image::in_place::restore_image(image, heap, words))
+    number_of(image::in_place::restore_image(image, heap, words))
 }
 
 // The image in form 2 of the state that an image of form 1 says, at the front of the lent bytes; the others stay.

@@ -3,35 +3,20 @@ ghost use Rattle.std.specs.Prelude.{◌≡◌};
 ghost use Rattle.words.specs.Words.{Padded};
 ghost use Rattle.queue.specs.Queue.{empty_queue, send, receive};
 ghost use Rattle.queue.specs.Places.{queue_of};
-ghost use Rattle.queue.specs.Results.{send_number, receive_number, receive_handle};
+ghost use Rattle.queue.specs.Results.{queue_refusal_number};
 ghost use Rattle.exports.specs.HeapReplies.{on_words};
 ghost use Rattle.exports.specs.QueueReplies.{sent_in, received_in};
 
-use crate::replies::{HandleReply, no_handle};
+use crate::replies::{HandleReply, Numbered, number_of, reply_of_handle};
 use model::Handle;
 use queue::{QUEUE_WORDS, Queue, QueueRefusal};
 use words::WORDS;
 
-// The refusal's number, 0 where the handle is sent.
-fn number_of_send(answer: Result<(), QueueRefusal>) -> u32
-    ensures { result ≡ send_number answer }
-{
-    match answer {
-        Ok(()) => 0,
-        Err(refusal) => refusal.number(),
-    }
-}
+impl Numbered for QueueRefusal {
+    ghost numbered = { queue_refusal_number };
 
-// The reply of receive.
-fn reply_of_receive(answer: Result<Handle, QueueRefusal>) -> HandleReply
-    ensures { result ≡ record { refusal = receive_number answer; handle = receive_handle answer } }
-{
-    match answer {
-        Ok(handle) => HandleReply {
-            refusal: 0,
-            handle: handle,
-        },
-        Err(refusal) => no_handle(refusal.number()),
+    fn told(self) -> u32 {
+        self.number()
     }
 }
 
@@ -55,7 +40,7 @@ pub extern "C" fn lokhazim_raw_queue_send(
         ≡ on_words send heap.old words.old (queue_of queue.old) handle }
     ensures pads { Padded words.old words.new }
 {
-    number_of_send(queue::send_in_place(heap, words, queue, handle))
+    number_of(queue::send_in_place(heap, words, queue, handle))
 }
 
 // The oldest handle is given.
@@ -63,5 +48,5 @@ pub extern "C" fn lokhazim_raw_queue_send(
 pub extern "C" fn lokhazim_raw_queue_receive(queue: &mut [u32; QUEUE_WORDS]) -> HandleReply
     ensures { received_in queue.new result ≡ receive (queue_of queue.old) }
 {
-    reply_of_receive(queue::receive_in_place(queue))
+    reply_of_handle(queue::receive_in_place(queue))
 }

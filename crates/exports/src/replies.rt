@@ -1,7 +1,9 @@
-// The replies of the heap's calls, and an answer as a reply: one function for each answer type.
-ghost use Rattle.std.specs.Prelude.{◌≡◌};
-ghost use Rattle.model.specs.Answers.{refused, verdict_values, handle_values, amount_values, range_values, block_values};
-ghost use Rattle.exports.specs.HeapReplies.{no_handle, handle_numbers, amount_numbers, range_numbers};
+// The replies of the heap's calls, and an answer as a reply: one function for each answer type. C gets numbers: no
+// enum, Option or Result crosses to it, so a refusal's number and a flag stand beside what is answered, here and in the
+// other replies.
+ghost use Rattle.std.specs.Prelude.{ℕ, ◌≡◌};
+ghost use Rattle.model.specs.Answers.{refusal_number, amount_values, range_values, block_values};
+ghost use Rattle.exports.specs.HeapReplies.{number_in, handle_in, no_handle, amount_numbers, range_numbers};
 ghost use Rattle.exports.specs.HeapReplies.{block_numbers, Exact};
 
 use accounts::QUOTAS;
@@ -50,18 +52,35 @@ pub struct BlockReply {
     pub serial: u32,
 }
 
+// What C gets as a number: the refusals of each topic, and the enums of a comparison.
+pub(crate) trait Numbered {
+    ghost numbered: { Self → ℕ };
+
+    // Its number.
+    fn told(self) -> u32
+        ensures { result ≡ numbered self };
+}
+
+impl Numbered for Refusal {
+    ghost numbered = { refusal_number };
+
+    fn told(self) -> u32 {
+        self.number()
+    }
+}
+
 // The refusal's number, 0 where there is none.
-pub(crate) fn number_of(verdict: Result<(), Refusal>) -> u32
-    ensures { refused result ≡ verdict_values verdict }
+pub(crate) fn number_of<R: Numbered>(answer: Result<(), R>) -> u32
+    ensures { result ≡ number_in R.numbered answer }
 {
-    match verdict {
+    match answer {
         Ok(()) => 0,
-        Err(refusal) => refusal.number(),
+        Err(refusal) => refusal.told(),
     }
 }
 
 // The reply with a refusal in place of a handle.
-pub(crate) fn no_handle(refusal: u32) -> HandleReply
+fn no_handle(refusal: u32) -> HandleReply
     ensures { result ≡ no_handle refusal }
 {
     HandleReply {
@@ -75,15 +94,12 @@ pub(crate) fn no_handle(refusal: u32) -> HandleReply
 }
 
 // The reply of a call that gives a handle.
-pub(crate) fn reply_of_handle(answer: Result<Handle, Refusal>) -> HandleReply
-    ensures { handle_numbers result ≡ handle_values answer }
+pub(crate) fn reply_of_handle<R: Numbered>(answer: Result<Handle, R>) -> HandleReply
+    ensures { result ≡ handle_in R.numbered answer }
 {
     match answer {
-        Ok(handle) => HandleReply {
-            refusal: 0,
-            handle: handle,
-        },
-        Err(refusal) => no_handle(refusal.number()),
+        Ok(handle) => HandleReply { refusal: 0, handle },
+        Err(refusal) => no_handle(refusal.told()),
     }
 }
 

@@ -115,7 +115,8 @@ fn reply_of_entry(answer: Result<Option<Entry>, SettingsRefusal>) -> EntryReply
     }
 }
 
-// Where the value of a name at a version lies: in the board's store, else in the defaults.
+// Where the value of a name at a version lies: in the board's store, else in the defaults. C lends each store as a
+// pointer and a length, and how many of its bytes are used.
 #[unsafe(no_mangle)]
 pub extern "C" fn lokhazim_raw_settings_find(
     board: &[u8],
@@ -132,7 +133,8 @@ pub extern "C" fn lokhazim_raw_settings_find(
     reply_of_find(settings::find(board, board_used, defaults, defaults_used, name, version))
 }
 
-// An entry behind the used bytes of a store; a store stays as it is where this is refused.
+// An entry behind the used bytes of a store, which C lends with their number; a store stays as it is where this is
+// refused.
 #[unsafe(no_mangle)]
 pub extern "C" fn lokhazim_raw_settings_add(
     store: &mut [u8],
@@ -148,7 +150,7 @@ pub extern "C" fn lokhazim_raw_settings_add(
     reply_of_add(settings::add(store, used, name, version, value))
 }
 
-// The n-th entry, from 0, of a store.
+// The n-th entry, from 0, of a store, which C lends with the number of its used bytes.
 #[unsafe(no_mangle)]
 pub extern "C" fn lokhazim_raw_settings_entry(store: &[u8], used: usize, n: usize) -> EntryReply
     ensures { result ≡ entry_reply (nth_of n (stored store.now used)) }

@@ -44,7 +44,7 @@ pub extern "C" fn lokhazim_raw_allocate(
     exports::lokhazim_raw_allocate(heap, words, quota, length)
 }
 
-// A new object for `count` elements of `size` bytes.
+// A new object for `count` elements of `size` bytes. Two numbers: C asks for an array by them, as calloc takes them.
 #[unsafe(no_mangle)]
 pub extern "C" fn lokhazim_raw_allocate_array(
     heap: &mut [u8],

@@ -1,5 +1,6 @@
 // The static library for programs in C and Rust: each export calls the function of crate `exports` that has its name, and
-// states its clauses again. A library of Rattle exports nothing to C, so `exports` is that for crates and this one for C.
+// states its clauses again. Each function stands twice for the C interface: a static library alone exports to C, and
+// no other crate can name what it exports (decision 153). scripts/exports holds the two to each other.
 #![tactic(auto)]
 
 mod comparisons;

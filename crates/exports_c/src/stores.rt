@@ -7,7 +7,8 @@ ghost use Rattle.exports.specs.StoreReplies.{find_reply, add_reply, entry_reply}
 
 use exports::{AddReply, EntryReply, FindReply};
 
-// Where the value of a name at a version lies: in the board's store, else in the defaults.
+// Where the value of a name at a version lies: in the board's store, else in the defaults. C lends each store as a
+// pointer and a length, and how many of its bytes are used.
 #[unsafe(no_mangle)]
 pub extern "C" fn lokhazim_raw_settings_find(
     board: &[u8],
@@ -24,7 +25,8 @@ pub extern "C" fn lokhazim_raw_settings_find(
     exports::lokhazim_raw_settings_find(board, board_used, defaults, defaults_used, name, version)
 }
 
-// An entry behind the used bytes of a store; a store stays as it is where this is refused.
+// An entry behind the used bytes of a store, which C lends with their number; a store stays as it is where this is
+// refused.
 #[unsafe(no_mangle)]
 pub extern "C" fn lokhazim_raw_settings_add(
     store: &mut [u8],
@@ -40,7 +42,7 @@ pub extern "C" fn lokhazim_raw_settings_add(
     exports::lokhazim_raw_settings_add(store, used, name, version, value)
 }
 
-// The n-th entry, from 0, of a store.
+// The n-th entry, from 0, of a store, which C lends with the number of its used bytes.
 #[unsafe(no_mangle)]
 pub extern "C" fn lokhazim_raw_settings_entry(store: &[u8], used: usize, n: usize) -> EntryReply
     ensures { result ≡ entry_reply (nth_of n (stored store.now used)) }

@@ -2,9 +2,14 @@
 use Rattle.std.proofs.Common.{◌≡◌, ℕ, ◌+◌, ◌*◌, ◌/◌, ◌<◌, ◌≤◌, true, ltb, List, ◌++◌, length, sym, arith, length-append, le-ltb, lt-ltb, le-leb}
 use borrow.Author.Tests.{lt-leb}
 use Rattle.layout.specs.Bytes.{overwrite}
+use Rattle.std.specs.Int.{div_ceil}
 use Rattle.framing.proofs.Rows
 use Rattle.std.specs.Prelude.{Some, None}
 use Rattle.framing.specs.Frames.{cut, cut_from, frames_for, has_room, write_frames}
+
+-- how many frames a stream has, as std's div_ceil says it
+pub frames_ceil : (n : ℕ) → div_ceil n 504 ≡ (n + 503) / 504
+frames_ceil n = omega arith
 
 -- the stream is longer than the longest
 pub too_long : (i head body : List ℕ) → 33029640 < length head + length body → record { image = i; answer = None } ≡ write_frames i (head ++ body)

@@ -86,7 +86,7 @@ pub fn write_frames(image: &mut [u8], head: &[u8], body: &[u8]) -> Option<usize>
     if LONGEST - head.len() < body.len() {
         return None;
     }
-    let count = (head.len() + body.len() + 503) / 504;
+    let count = (head.len() + body.len()).div_ceil(504);
     if image.len() < 512 * count {
         return None;
     }

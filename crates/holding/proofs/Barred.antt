@@ -10,7 +10,7 @@ use Rattle.model.specs.Refusals.{first_refusal, line_3, row_lines}
 use Rattle.model.specs.Calls.{check, clear}
 use Rattle.model.specs.declared.Refusal.{Refusal}
 use Rattle.model.specs.declared.Refusal.TheVariants.{QuotaNumber}
-use Rattle.results.specs.declared.AmountResult.{AmountResult}
+use Rattle.results.specs.Results.{AmountResult}
 use Rattle.results.specs.Results.{outcome, amount_outcome}
 use Rattle.results.proofs.Lines.{check_refuses, check_accepts, refused_is, accepted_is, line_3_refuses, line_3_passes}
 use Rattle.results.proofs.Amounts.{gives}

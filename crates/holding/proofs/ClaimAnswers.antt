@@ -1,10 +1,9 @@
 -- A claim by the survey is that of rules 8.13 to 8.15: its lines decide in their order, and then the place of the quota's record picks the way of the claim.
 use Rattle.std.specs.Prelude.{Option, Some, None, Result, Ok, Err}
 use Prim.Native.Nat.{ℕ, ◌-◌, ◌/◌, ◌%◌, ◌≤◌, ◌<◌}
-use mathlib.Core.Path.{◌≡◌, refl, ap, sym, subst, ◌∙◌}
-use mathlib.Core.Bool.{Bool, true, false}
+use mathlib.Core.Path.{◌≡◌, ap, sym, subst, ◌∙◌}
+use mathlib.Core.Bool.{true}
 use mathlib.Core.List.{List, ◌∷◌}
-use native.Mathlib.Omega.{arith}
 use Rattle.rounding.specs.Rounding.{table}
 use Rattle.accounts.specs.declared.Accounts.{Accounts}
 use Rattle.accounts.specs.Accounts.{QUOTAS, CLAIM, quota_at, permits, find_hold, lowest_unused}
@@ -19,7 +18,7 @@ use Rattle.model.specs.declared.Refusal.{Refusal}
 use Rattle.model.specs.declared.Refusal.TheVariants.{QuotaNumber, NoSuchObject, NotPermitted}
 use Rattle.results.proofs.Lines.{check_refuses, check_accepts, refused_is, line_3_refuses}
 use Rattle.results.proofs.Lookups.{byte_quota, Located, located}
-use Rattle.results.specs.declared.AmountResult.{AmountResult}
+use Rattle.results.specs.Results.{AmountResult}
 use Rattle.results.specs.Results.{amount_outcome}
 use Rattle.survey.specs.declared.Wanted.{Wanted}
 use Rattle.survey.specs.declared.Known.{Known}

@@ -27,7 +27,7 @@ use Rattle.survey.proofs.Flags.{accounted_well, drop_well}
 use Rattle.lookup.proofs.Parsed.{total_parsed}
 use Rattle.results.specs.Results.{outcome}
 use Rattle.results.proofs.Lines.{check_refuses, check_accepts, refused_is, accepted_is, line_3_refuses, line_3_passes, line_12_refuses, line_12_passes}
-use Rattle.results.specs.declared.AmountResult.{AmountResult}
+use Rattle.results.specs.Results.{AmountResult}
 use Rattle.results.specs.Results.{amount_outcome}
 use Rattle.holding.specs.Emptying.{flags_of, Flagged, Emptying, Emptiable, Emptied}
 use Rattle.results.proofs.Amounts.{gives}

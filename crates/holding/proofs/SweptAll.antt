@@ -20,7 +20,7 @@ use Rattle.lookup.proofs.Parsed.{total_parsed}
 use Rattle.results.specs.Results.{outcome}
 use Rattle.results.proofs.Lines.{check_refuses, check_accepts, check_accounted, refused_is, accepted_is}
 use Rattle.invariant.proofs.Laid.{allowed_most}
-use Rattle.results.specs.declared.AmountResult.{AmountResult}
+use Rattle.results.specs.Results.{AmountResult}
 use Rattle.results.specs.Results.{amount_outcome}
 use Rattle.holding.specs.Sweeping.{Sweeping, Sweepable, Swept}
 use Rattle.results.proofs.Amounts.{gives}

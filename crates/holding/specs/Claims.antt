@@ -8,7 +8,7 @@ use Rattle.model.specs.Consistent.{charge_of}
 use Rattle.model.specs.Refusals.{greatest_count}
 use Rattle.model.specs.declared.Refusal.{Refusal}
 use Rattle.model.specs.declared.Refusal.TheVariants.{CountLimit, QuotaExceeded, HoldsExhausted}
-use Rattle.results.specs.declared.AmountResult.{AmountResult}
+use Rattle.results.specs.Results.{AmountResult}
 
 -- a refusal leaves the accounts as they are
 abbrev pub not_claimed : Refusal → Accounts → AmountResult

@@ -1,6 +1,6 @@
 // Free-all (rules 8.20 to 8.22): a quota gives up every hold at once, and the blocks that no quota holds any more become free.
 // One walk says which live blocks the records that are left still hold, and one walk frees the others.
-ghost use Rattle.std.specs.Prelude.{◌≡◌};
+ghost use Rattle.std.specs.Prelude.{◌≡◌, false};
 ghost use Rattle.rounding.specs.Rounding.{table};
 ghost use Rattle.model.specs.Calls.{free_all as free_all_of};
 ghost use Rattle.lookup.specs.Walk.{Bounded};
@@ -27,11 +27,12 @@ fn counted(serial: u32) -> usize
     1
 }
 
-// A block is passed: a live one that is not kept is vacated. The place behind what is left of it is given.
-fn pass_block(heap: &mut [u8], kind: u8, block: Met, kept: bool) -> usize
+// A block that is not kept is passed: a live one is vacated. The place behind what is left of it is given.
+// The kind is a byte, as C lends it: the survey has refused each that is no kind.
+fn pass_block(heap: &mut [u8], kind: u8, block: Met) -> usize
     requires { Bounded block }
-    ensures leaves { heap.new ≡ passed kind kept block heap.old }
-    ensures ends { result ≡ passed_end kind kept block heap.old }
+    ensures leaves { heap.new ≡ passed kind false block heap.old }
+    ensures ends { result ≡ passed_end kind false block heap.old }
 {
     let end = block.at + block.size;
     if block.serial == 0 {
@@ -40,14 +41,11 @@ fn pass_block(heap: &mut [u8], kind: u8, block: Met, kept: bool) -> usize
     if block.serial == QUARANTINED {
         return end;
     }
-    if kept {
-        return end;
-    }
     writer::vacate_block(heap, block, kind)
 }
 
 // The live blocks that are not kept are vacated, the flags taken in the order of the live blocks.
-// The index counts live blocks and not turns, so a loop over a range would not be plainer.
+// The index counts live blocks and not turns, so a loop over a range would not be plainer. The kind is a byte, as above.
 fn free_unkept(heap: &mut [u8], kind: u8, kept: &[bool; HOLDS])
     requires { Emptiable kind kept.now heap.old }
     ensures { Emptied kind kept.now heap.old heap.new }
@@ -64,7 +62,12 @@ fn free_unkept(heap: &mut [u8], kind: u8, kept: &[bool; HOLDS])
             back: header.back,
             serial: header.serial,
         };
-        at = pass_block(heap, kind, block, kept[i]);
+        let stays = kept[i];
+        at = if stays {
+            block.at + block.size
+        } else {
+            pass_block(heap, kind, block)
+        };
         i += counted(header.serial);
     }
 }
@@ -72,13 +75,13 @@ fn free_unkept(heap: &mut [u8], kind: u8, kept: &[bool; HOLDS])
 // The live blocks that no used record holds are vacated. The flags lie beside the index of the records that are left, and not beside the survey's.
 // It stands by itself, so that its flags are on the stack only while it runs, and not beside the survey.
 #[inline(never)]
-pub(crate) fn free_unheld(heap: &mut [u8], words: &[u32; WORDS], kind: u8)
-    requires { Emptiable kind (flags_of (holds_of words.now) heap.old) heap.old }
-    ensures { Emptied kind (flags_of (holds_of words.now) heap.old) heap.old heap.new }
+pub(crate) fn free_unheld(heap: &mut [u8], words: &[u32; WORDS])
+    requires { Emptiable (accounts_of words.now).kind (flags_of (holds_of words.now) heap.old) heap.old }
+    ensures { Emptied (accounts_of words.now).kind (flags_of (holds_of words.now) heap.old) heap.old heap.new }
 {
     let mut kept = [false; HOLDS];
     survey::held_blocks(heap, words, &mut kept);
-    free_unkept(heap, kind, &kept);
+    free_unkept(heap, words::kind(words), &kept);
 }
 
 // Every hold of a quota is given up, and all that it has spent is given back; objects that no quota holds are freed.
@@ -97,6 +100,6 @@ pub fn free_all(heap: &mut [u8], words: &mut [u32; WORDS], quota: u32) -> Result
     let back = words::spent(words, quota);
     words::refund(words, quota, back);
     words::drop_holds(words, quota as u8);
-    free_unheld(heap, words, words::kind(words));
+    free_unheld(heap, words);
     Ok(back)
 }

@@ -36,6 +36,7 @@ fn sweep_block(heap: &mut [u8], block: Met) -> usize
 }
 
 // All quarantined blocks become free, and the sum of their sizes is given.
+// A walk: each header says where the next one starts, and no index is counted, so a loop over a range is not plainer.
 pub(crate) fn sweep_blocks(heap: &mut [u8]) -> usize
     requires { Sweepable heap.old }
     ensures { Swept heap.old heap.new result }

@@ -1,5 +1,5 @@
 -- What the tests of an image alone find, those before the lent heap and its consistency are looked at.
-use Rattle.std.specs.Prelude.{ℕ, zero, suc, ◌+◌, ◌≤◌, List, [], ◌∷◌, Bool, not, cond, length, drop, eqb, Result, Ok, Err, Option, Some, None}
+use Rattle.std.specs.Prelude.{ℕ, zero, suc, ◌≤◌, List, [], ◌∷◌, not, cond, length, drop, eqb, Result, Ok, Err, Option, Some, None}
 use Rattle.accounts.specs.declared.Accounts.{Accounts}
 use Rattle.accounts.specs.Accounts.{QUOTAS, HOLDS, zero_accounts}
 use Rattle.layout.specs.Bytes.{overwrite}

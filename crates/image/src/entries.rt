@@ -10,7 +10,7 @@ ghost use Rattle.image_model.specs.Stream.{form_2, tail_right, no_grant, all_per
 ghost use Rattle.image_model.specs.Reading.{entry_of, entry_right};
 
 use crate::forms::entry_at;
-use crate::numbers::{read_quad, wide};
+use crate::numbers::read_quad;
 use accounts::{ALL_PERMISSIONS, QUOTAS, Quota};
 use image_model::Form;
 use words::WORDS;
@@ -46,7 +46,7 @@ fn write_permissions(head: &mut [u8], at: usize, permissions: u8)
     requires { at + 4 ≤ length head.old }
     ensures { head.new ≡ overwrite at (bytes 1 permissions ++ replicate 3 0) head.old }
 {
-    layout::write_u32(head, at, wide(permissions));
+    layout::write_u32(head, at, u32::from(permissions));
 }
 
 // An entry, written at a place of the head.

@@ -9,7 +9,7 @@ use image_model::Form;
 // The longest head of an image.
 pub(crate) const HEAD: usize = 4492;
 
-// Form 1.
+// Form 1. Forms 1 and 2 are two constants; the function of both is `form_numbered`, which has none for other numbers.
 pub(crate) fn form_1() -> Form
     ensures { result ≡ form_1 }
 {
@@ -34,16 +34,15 @@ pub(crate) fn form_2() -> Form
 }
 
 // The form with a number, if there is one.
+#[tactic(auto, unfolding(image_model::specs::Stream::form_numbered))]
 pub(crate) fn form_numbered(number: u32) -> Option<Form>
     ensures { known_form result ≡ form_numbered number }
 {
-    if number == 1 {
-        return Some(form_1());
+    match number {
+        1 => Some(form_1()),
+        2 => Some(form_2()),
+        _ => None,
     }
-    if number == 2 {
-        return Some(form_2());
-    }
-    None
 }
 
 // Where an entry begins in a form; the records begin behind the last.
@@ -57,7 +56,8 @@ pub(crate) fn entry_at(entry: usize, form: Form) -> usize
     12 + entry * 8
 }
 
-// Where the heap begins.
+// Where the heap begins. `FormFits` is a clause here and in others, and no invariant: `Form` is public, and
+// docs/PROMISES-THEOREM.md and the definitions of image_model speak of any form.
 pub(crate) fn heap_at(form: Form) -> usize
     requires { FormFits form }
     ensures { (result ≡ head_length form) × (result ≤ 4492) }

@@ -5,17 +5,17 @@ ghost use Rattle.framing.specs.Frames.{stream_of};
 ghost use Rattle.image_model.specs.Stream.{marks_right};
 ghost use Rattle.image_model.specs.Reading.{marks_in};
 
-use crate::numbers::{read_pair, wide};
+use crate::numbers::read_pair;
 use image_model::Form;
 
-// The two bytes as one number.
+// The two bytes as one number. Bytes and no enums: in the words that C lends the kind and the edition can be any byte.
 pub(crate) fn marks(form: Form, kind: u8, edition: u8) -> u32
     ensures { (bytes 2 result ≡ cond form.full (bytes 1 edition ++ bytes 1 kind) (replicate 2 0)) × (result < 65536) }
 {
     if !form.full {
         return 0;
     }
-    wide(edition) + 256 * wide(kind)
+    u32::from(edition) + 256 * u32::from(kind)
 }
 
 // Whether the two bytes of an image are right.

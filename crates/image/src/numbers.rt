@@ -3,20 +3,13 @@ ghost use Rattle.std.specs.Prelude.{◌≡◌, ◌+◌, ◌<◌, ◌^◌, take, 
 ghost use Rattle.layout.specs.Bytes.{number};
 ghost use Rattle.framing.specs.Frames.{stream_of};
 
-// A byte as a wider number.
-pub(crate) fn wide(byte: u8) -> u32
-    ensures { (result ≡ byte) × (result < 256) }
-{
-    byte as u32
-}
-
 // The number of the two bytes at a place of the stream.
 pub(crate) fn read_pair(image: &[u8], at: usize) -> u32
     requires { at + 2 < 2 ^ 32 }
     ensures { (result ≡ number (take 2 (drop at (stream_of image.now)))) × (result < 65536) }
 {
-    let low = wide(framing::stream_at(image, at));
-    let high = wide(framing::stream_at(image, at + 1));
+    let low = u32::from(framing::stream_at(image, at));
+    let high = u32::from(framing::stream_at(image, at + 1));
     low + 256 * high
 }
 

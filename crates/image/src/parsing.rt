@@ -39,7 +39,7 @@ fn contents_right(image: &[u8], form: Form, size: usize) -> bool
         return false;
     }
     let end = heap_at(form) + size;
-    if image.len() / 512 != (end + 503) / 504 {
+    if image.len() / 512 != end.div_ceil(504) {
         return false;
     }
     if !zero_from(image, end) {

@@ -19,7 +19,7 @@ fn length_in(form: Form, size: usize) -> usize
         return 0;
     }
     let end = heap_at(form) + size;
-    512 * ((end + 503) / 504)
+    512 * end.div_ceil(504)
 }
 
 // The same in form 2, which `write_image` writes, and in form 1.

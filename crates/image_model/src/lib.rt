@@ -40,7 +40,7 @@ pub struct ReadResult {
 }
 
 impl ImageRefusal {
-    // The refusal's number.
+    // The refusal's number. docs/PROMISES-IMAGES.md names it.
     pub fn number(self) -> u32
         ensures { result ≡ image_refusal_number self }
     {

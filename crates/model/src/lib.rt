@@ -33,7 +33,7 @@ pub fn is_allowed(len: usize) -> bool
 
 // A range and a serial. They name the object that has the serial and the whole range in it (rule 4.3). A handle that a call answers has the whole object.
 #[repr(C)]
-#[derive(Clone, Copy)]
+#[derive(Clone, Copy, PartialEq, Eq)]
 pub struct Handle {
     pub base: u32,
     pub length: u32,
@@ -42,7 +42,7 @@ pub struct Handle {
 
 // A part of the heap, from start up to end.
 #[repr(C)]
-#[derive(Clone, Copy)]
+#[derive(Clone, Copy, PartialEq, Eq)]
 pub struct Range {
     pub start: usize,
     pub end: usize,
@@ -50,7 +50,7 @@ pub struct Range {
 
 // A block as the listing gives it: its offset, its size with the header, and its serial, 0 for a free block.
 #[repr(C)]
-#[derive(Clone, Copy)]
+#[derive(Clone, Copy, PartialEq, Eq)]
 pub struct ListedBlock {
     pub offset: usize,
     pub size: usize,
@@ -58,7 +58,7 @@ pub struct ListedBlock {
 }
 
 // The twelve refusals, in the order of their numbers. They are checked in this order (rule 7.1), but for the last: it comes right after the third (rule 15.6).
-#[derive(Clone, Copy)]
+#[derive(Clone, Copy, PartialEq, Eq)]
 pub enum Refusal {
     HeapLength,
     Inconsistent,
@@ -76,7 +76,7 @@ pub enum Refusal {
 
 // The rows of the table of section 8 that differ in their lines: check, sweep and the listing; remaining and clear permissions; free-all; lend and the write of
 // a byte; release and can release; claim and can claim; allocate and allocate array; reallocate.
-#[derive(Clone, Copy)]
+#[derive(Clone, Copy, PartialEq, Eq)]
 pub enum Row {
     Check,
     Quota,
@@ -89,7 +89,7 @@ pub enum Row {
 }
 
 // The answer of any call of a history.
-#[derive(Clone, Copy)]
+#[derive(Clone, Copy, PartialEq, Eq)]
 pub enum Answer {
     Verdict(Result<(), Refusal>),
     Handle(Result<Handle, Refusal>),
@@ -99,7 +99,7 @@ pub enum Answer {
 }
 
 // A call of a history, with its arguments.
-#[derive(Clone, Copy)]
+#[derive(Clone, Copy, PartialEq, Eq)]
 pub enum Call {
     Allocate {
         quota: u32,
@@ -147,7 +147,7 @@ pub enum Call {
 }
 
 impl Refusal {
-    // The refusal's number.
+    // The refusal's number, which C gets. A method and no `From`: docs/PROMISES.md names it.
     pub fn number(self) -> u32
         ensures { result ≡ refusal_number self }
     {

@@ -7,7 +7,7 @@ use Rattle.accounts.specs.declared.Accounts.{Accounts}
 use Rattle.model.specs.Answers.{Values, refused, verdict_values, amount_values}
 use Rattle.model.specs.Calls.{Outcome, unchanged}
 use Rattle.model.specs.declared.Refusal.{Refusal}
-use Rattle.results.specs.declared.AmountResult.{AmountResult}
+use Rattle.results.specs.Results.{AmountResult}
 use Rattle.results.specs.Results.{outcome, amount_outcome}
 use Rattle.holding.specs.Claims.{not_claimed}
 use Rattle.queries.specs.Claimable.{refusal_in}

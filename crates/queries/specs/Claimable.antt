@@ -4,7 +4,7 @@ use Rattle.accounts.specs.declared.Accounts.{Accounts}
 use Rattle.model.specs.Answers.{Values, refused, amount_values}
 use Rattle.model.specs.Calls.{Outcome, unchanged, claim}
 use Rattle.model.specs.declared.Handle.{Handle}
-use Rattle.results.specs.declared.AmountResult.{AmountResult}
+use Rattle.results.specs.Results.{AmountResult}
 
 -- rule 8.37: the refusal that a claim would give, 0 where it would be accepted; nothing changes
 abbrev pub can_claim : (ℕ → ℕ) → List ℕ → Accounts → ℕ → Handle → Outcome

@@ -15,6 +15,8 @@ use model::{GREATEST_COUNT, Handle, Refusal};
 use words::WORDS;
 
 // Whether the record at a place can count once more.
+// A claim (holding) writes behind the same test, here and in `can_pay`: one function would take what to do as a closure,
+// which is no plainer than a test and its refusal.
 fn can_count(words: &[u32; WORDS], at: usize) -> Result<(), Refusal>
     ensures { (n : ℕ) → verdict_values result ≡ refusal_in (claim_again at n (accounts_of words.now)) }
 {

@@ -42,6 +42,8 @@ pub fn write_object(
 
 // Rule 8.29: the bytes of a handle's range, as a part of the heap; an empty part where it is refused. The refusal's number, 0 where there is none, is left
 // in refusal.
+// The refusal is a number beside the part: `holds` and `lies` promise an empty part on a refusal (rule 7.6), which a
+// `Result` would not have.
 pub fn lend<'a>(
     heap: &'a mut [u8],
     words: &[u32; WORDS],

@@ -12,6 +12,7 @@ use model::{ListedBlock, Refusal};
 use words::WORDS;
 
 // The block that the walk meets at a place.
+// A walk: each header says where the next one starts, and no index is counted, so a loop over a range is not plainer.
 pub(crate) fn find_block(heap: &[u8], at: usize) -> Result<Option<ListedBlock>, Refusal>
     ensures { result ≡ find_block at heap.now }
 {

@@ -38,7 +38,6 @@ use Rattle.ledger.specs.History.{by_own, History}
 use Rattle.ledger.proofs.Agreement.{Agrees}
 use Rattle.ledger.proofs.Steps.{good, again}
 use Rattle.ledger.proofs.Theorem.{history_agrees, demand_3_of}
-use Rattle.queue.proofs.Rows
 
 module _ (tables : ℕ → ℕ → ℕ) (units : (e : ℕ) → Units (tables e)) (begun : Ledger) (es : List Event) (s : List ℕ) (k : Accounts)
     (past : History tables (by_own tables) begun es s k) (from to : ℕ) (h : Handle) (c : (claim (tables k.edition) s k to h).values.refusal ≡ 0)

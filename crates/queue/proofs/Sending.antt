@@ -18,7 +18,6 @@ use Rattle.model.proofs.StepFrame.{step_keeps}
 use Rattle.queue.specs.declared.Queue.{Queue}
 use Rattle.queue.specs.Queue.{PLACES, with_handle, without_oldest, line_53, line_51, line_52, line_of, Sent, sent_unless, send_lines, send}
 use Rattle.queue.specs.Queue.{received_unless, receive_lines, receive}
-use Rattle.queue.proofs.Rows
 
 -- a send that is refused leaves what came in
 abbrev pub kept : List ℕ → Accounts → Queue → ℕ → Sent

@@ -1,6 +1,7 @@
 -- A queue as words: its sender, its receiver, its count, then base, length and serial of each place. The words hold nothing else.
 use Rattle.std.specs.Prelude.{ℕ, ◌+◌, ◌*◌, ◌≤◌, ◌<◌, ◌≡◌, List, length, get_or}
 use Rattle.words.specs.Words.{tabulate}
+use Rattle.model.specs.Answers.{zero_handle}
 use Rattle.model.specs.declared.Handle.{Handle}
 use Rattle.queue.specs.declared.Queue.{Queue}
 use Rattle.queue.specs.Queue.{PLACES}
@@ -34,6 +35,16 @@ handles_of words = tabulate PLACES (handle_in words) 0
 -- the queue
 abbrev pub queue_of : List ℕ → Queue
 queue_of words = record { sender = get_or words SENDER 0; receiver = get_or words RECEIVER 0; count = get_or words COUNT 0; handles = handles_of words }
+
+-- the words of one place, and of all; the words before the first place are as they were
+abbrev pub HasHandle : List ℕ → ℕ → Handle → Type 0
+HasHandle words p h =
+    (get_or words (FIRST + 3 * p) 0 ≡ h.base) × (get_or words (FIRST + 3 * p + 1) 0 ≡ h.length) × (get_or words (FIRST + 3 * p + 2) 0 ≡ h.serial)
+
+abbrev pub HasHandles : List Handle → List ℕ → List ℕ → Type 0
+HasHandles hs words words' =
+    (length words' ≡ QUEUE_WORD_COUNT) × ((p : ℕ) → p < PLACES → HasHandle words' p (get_or hs p zero_handle))
+    × ((j : ℕ) → j < FIRST → get_or words' j 0 ≡ get_or words j 0)
 
 -- every place has moved up by one, and the words before the first place are as they were; behind the last place there are zeros
 abbrev pub MovedUp : List ℕ → List ℕ → Type 0

@@ -2,10 +2,10 @@
 // out.
 #![tactic(auto)]
 
-ghost use Rattle.std.specs.Prelude.{◌≡◌, ◌<◌, Err};
+ghost use Rattle.std.specs.Prelude.{◌≡◌};
 ghost use Rattle.rounding.specs.Rounding.{table};
 ghost use Rattle.queue.specs.declared.QueueRefusal.TheVariants.{Heap};
-ghost use Rattle.queue.specs.Queue.{PLACES, empty_queue, with_handle, without_oldest, send as send_of, receive as receive_of};
+ghost use Rattle.queue.specs.Queue.{empty_queue, send as send_of, receive as receive_of};
 ghost use Rattle.queue.specs.Results.{queue_refusal_number, send_outcome, receive_outcome};
 
 use accounts::Accounts;
@@ -21,6 +21,7 @@ pub use places::QUEUE_WORDS;
 pub const PLACES: usize = 16;
 
 // A queue between two quotas (rule 21.1): the handles on their way are the first `count`, the oldest first.
+// The count stands beside the array: C has this struct by value, from `lokhazim_queue_new`.
 #[repr(C)]
 #[derive(Clone, Copy)]
 pub struct Queue {
@@ -94,70 +95,19 @@ impl Queue {
             handles: [zero; PLACES],
         }
     }
-
-    // The queue with one handle more behind the others.
-    pub(crate) fn with_handle(mut self, handle: Handle) -> Queue
-        requires { self.count < PLACES }
-        ensures { result ≡ with_handle handle self }
-    {
-        let at = self.count as usize;
-        self.handles[at] = handle;
-        self.count = self.count + 1;
-        self
-    }
-
-    // The queue without its oldest handle: every place moves up by one.
-    fn without_oldest(mut self) -> Queue
-        requires { 0 < self.count }
-        ensures { result ≡ without_oldest self }
-    {
-        self.handles.copy_within(1.., 0);
-        self.handles[PLACES - 1] = Handle {
-            base: 0,
-            length: 0,
-            serial: 0,
-        };
-        self.count = self.count - 1;
-        self
-    }
-}
-
-// A send that is refused.
-fn not_sent(accounts: Accounts, queue: Queue, refusal: QueueRefusal) -> SendResult
-    ensures { result ≡ record { accounts = accounts; queue = queue; answer = Err refusal } }
-{
-    SendResult {
-        accounts: accounts,
-        queue: queue,
-        answer: Err(refusal),
-    }
 }
 
 // A handle is sent: the receiver claims the object and the sender releases it. Where one of the two would be refused, nothing has changed.
 pub fn send(heap: &mut [u8], accounts: Accounts, queue: Queue, handle: Handle) -> SendResult
     ensures { send_outcome heap.new result ≡ send_of (table accounts.edition) heap.old accounts queue handle }
 {
-    if PLACES < queue.count as usize {
-        return not_sent(accounts, queue, QueueRefusal::Damaged);
-    }
-    if queue.count as usize == PLACES {
-        return not_sent(accounts, queue, QueueRefusal::Full);
-    }
-    let claimed = heap::claim(heap, accounts, queue.receiver, handle);
-    let answer = claimed.answer;
-    if let Err(refusal) = answer {
-        return not_sent(accounts, queue, QueueRefusal::Heap(refusal));
-    }
-    if let Err(refusal) = heap::can_release(heap, accounts, queue.sender, handle) {
-        return not_sent(accounts, queue, QueueRefusal::Heap(refusal));
-    }
-    let held = claimed.accounts;
-    let released = heap::release(heap, held, queue.sender, handle);
-    let left = released.accounts;
+    let mut words = words::words_of(accounts);
+    let mut places = places::words_of(queue);
+    let answer = send_in_place(heap, &mut words, &mut places, handle);
     SendResult {
-        accounts: left,
-        queue: queue.with_handle(handle),
-        answer: Ok(()),
+        accounts: words::accounts_of(&words),
+        queue: places::queue_of(&places),
+        answer: answer,
     }
 }
 
@@ -165,21 +115,10 @@ pub fn send(heap: &mut [u8], accounts: Accounts, queue: Queue, handle: Handle) -
 pub fn receive(queue: Queue) -> ReceiveResult
     ensures { receive_outcome result ≡ receive_of queue }
 {
-    if PLACES < queue.count as usize {
-        return ReceiveResult {
-            queue: queue,
-            answer: Err(QueueRefusal::Damaged),
-        };
-    }
-    if queue.count == 0 {
-        return ReceiveResult {
-            queue: queue,
-            answer: Err(QueueRefusal::Empty),
-        };
-    }
-    let oldest = queue.handles[0];
+    let mut places = places::words_of(queue);
+    let answer = receive_in_place(&mut places);
     ReceiveResult {
-        queue: queue.without_oldest(),
-        answer: Ok(oldest),
+        queue: places::queue_of(&places),
+        answer: answer,
     }
 }

@@ -1,137 +1,201 @@
--- A name and its numbers as a call or an opening: a line with more numbers than any call takes asks for nothing, and the numbers in the array's
--- front are the line's.
+-- What a line asks for, by its name and the numbers behind it.
 use Rattle.std.specs.Prelude.{Option, Some, None}
-use mathlib.Core.Path.{◌≡◌, refl, ap, sym}
+use mathlib.Core.Path.{◌≡◌, refl, ap, sym, ◌∙◌}
 use mathlib.Core.List.{List, [], ◌∷◌}
-use mathlib.Core.Bool.{Bool, true, false, cond}
-use Prim.Native.Nat.{ℕ, ◌+◌, ◌≤◌, ◌<◌}
+use mathlib.Core.Logic.{◌⊎◌, inl, inr}
+use mathlib.Core.Bool.{Bool, true, false}
+use Prim.Native.Nat.{ℕ, ◌+◌}
 use native.Mathlib.Omega.{arith}
-use lib.Dec.{leb, eqb}
-use borrow.Author.Tests.{leb-false, eqb-true, ne_eqb}
-use lib.ListN.{length, take, get_or}
-use lib.Seq.{length-take-le, get_or-take}
+use lib.Dec.{eqb}
+use borrow.Author.Tests.{eq-eqb, ne_eqb, eqb-true, eqb-false}
+use lib.ListN.{length, get_or}
 use Rattle.accounts.specs.Accounts.{QUOTAS}
 use Rattle.model.specs.declared.Call.{Call}
 use Rattle.model.specs.declared.Call.TheVariants.{Allocate, AllocateArray, Claim, Release, FreeAll, Reallocate}
-use Rattle.replay_model.specs.Lines.{numbers}
-use Rattle.replay_model.specs.Commands.{handle_in, word_of, taking, call_of, opening_of, named, phrase_of, phrase_call, phrase_opening}
-use Rattle.replay_text.specs.Clauses.{MOST, few, few_phrase}
+use Rattle.replay_model.specs.Text.{SPACE, read_number}
+use Rattle.replay_model.specs.Lines.{split, words, numbers, join_number}
+use Rattle.replay_model.specs.Commands.{handle_in, word_of, taking, call_of, opening_of, named, phrase_of, phrase_call, phrase_opening, line_call, line_opening}
+use Rattle.replay_text.specs.Clauses.{Cut, exactly}
 use Rattle.replay_model.specs.declared.Word.{Word}
 use Rattle.replay_model.specs.declared.Word.TheVariants.{Open, Alloc, Array, Claim as ClaimWord, Free, All, Realloc, Unknown}
 
--- more numbers than any line has
-taking_none : (k : ℕ) (ns : List ℕ) (c : Call) → k < length ns → taking k ns c ≡ None
-unfolding taking
-taking_none k ns c h = rw (ne_eqb (length ns) k (λ e. omega arith))
+-- a name alone
+call_alone : (x : Word) → call_of x [] ≡ None
+unfolding call_of taking
+call_alone Open = refl
+call_alone Alloc = refl
+call_alone Array = refl
+call_alone ClaimWord = refl
+call_alone Free = refl
+call_alone All = refl
+call_alone Realloc = refl
+call_alone Unknown = refl
 
-call_none : (x : Word) (ns : List ℕ) → MOST < length ns → None ≡ call_of x ns
+opening_alone : (x : Word) → opening_of x [] ≡ None
+unfolding opening_of
+opening_alone Open = refl
+opening_alone Alloc = refl
+opening_alone Array = refl
+opening_alone ClaimWord = refl
+opening_alone Free = refl
+opening_alone All = refl
+opening_alone Realloc = refl
+opening_alone Unknown = refl
+
+pub line_alone_call : (l : List ℕ) → split SPACE l ≡ l ∷ [] → None ≡ line_call l
+unfolding line_call phrase_of named numbers phrase_call
+line_alone_call l e = sym (rw e (call_alone (word_of l)))
+
+pub line_alone_opening : (l : List ℕ) → split SPACE l ≡ l ∷ [] → None ≡ line_opening l
+unfolding line_opening phrase_of named numbers phrase_opening
+line_alone_opening l e = sym (rw e (opening_alone (word_of l)))
+
+-- a name x, and the numbers of what stands behind it
+module _ (l name rest : List ℕ) (m : Cut SPACE l name rest) (x : Word) (e : x ≡ word_of name) where
+  pub line_call_is : phrase_call (named x (numbers (words rest))) ≡ line_call l
+  unfolding line_call phrase_of
+  line_call_is = ap (λ (y : Word). phrase_call (named y (numbers (words rest)))) e ∙ sym (ap (λ ws. phrase_call (phrase_of ws)) m.parts)
+
+  pub line_opening_is : phrase_opening (named x (numbers (words rest))) ≡ line_opening l
+  unfolding line_opening phrase_of
+  line_opening_is = ap (λ (y : Word). phrase_opening (named y (numbers (words rest)))) e ∙ sym (ap (λ ws. phrase_opening (phrase_of ws)) m.parts)
+
+-- a name, how many numbers its call takes, and the call of so many
+pub record Takes (x : Word) : Type 0 where
+  pub count : ℕ
+  pub call : List ℕ → Call
+  pub is : (ns : List ℕ) → call_of x ns ≡ taking count ns (call ns)
+
+unfoldable pub takes_alloc : Takes Alloc
 unfolding call_of
-call_none Open ns h = refl
-call_none Alloc ns h = sym (taking_none 2 ns (Allocate (get_or ns 0 0) (get_or ns 1 0)) (omega arith))
-call_none Array ns h = sym (taking_none 3 ns (AllocateArray (get_or ns 0 0) (get_or ns 1 0) (get_or ns 2 0)) (omega arith))
-call_none ClaimWord ns h = sym (taking_none 4 ns (Claim (get_or ns 0 0) (handle_in ns)) (omega arith))
-call_none Free ns h = sym (taking_none 4 ns (Release (get_or ns 0 0) (handle_in ns)) (omega arith))
-call_none All ns h = sym (taking_none 1 ns (FreeAll (get_or ns 0 0)) (omega arith))
-call_none Realloc ns h = sym (taking_none 5 ns (Reallocate (get_or ns 0 0) (handle_in ns) (get_or ns 4 0)) (omega arith))
-call_none Unknown ns h = refl
+takes_alloc = record { count = 2; call = λ ns. Allocate (get_or ns 0 0) (get_or ns 1 0); is = λ ns. refl }
 
-opening_none : (x : Word) (ns : List ℕ) → MOST < length ns → None ≡ opening_of x ns
-unfolding opening_of
-opening_none Open ns h = rw (ne_eqb (length ns) (QUOTAS + 1) (λ e. omega arith))
-opening_none Alloc ns h = refl
-opening_none Array ns h = refl
-opening_none ClaimWord ns h = refl
-opening_none Free ns h = refl
-opening_none All ns h = refl
-opening_none Realloc ns h = refl
-opening_none Unknown ns h = refl
+unfoldable pub takes_array : Takes Array
+unfolding call_of
+takes_array = record { count = 3; call = λ ns. AllocateArray (get_or ns 0 0) (get_or ns 1 0) (get_or ns 2 0); is = λ ns. refl }
 
--- so it is the same to read no more than that
-few_call : (x : Word) (o : Option (List ℕ)) → phrase_call (named x (few o)) ≡ phrase_call (named x o)
-unfolding few named phrase_call
-few_call x None = refl
-few_call x (Some ns) = go (leb (length ns) MOST) refl
-  where
-    go : (t : Bool) → leb (length ns) MOST ≡ t → phrase_call (named x (cond t (Some ns) None)) ≡ call_of x ns
-    go true e = refl
-    go false e = call_none x ns (leb-false (length ns) MOST e)
+unfoldable pub takes_claim : Takes ClaimWord
+unfolding call_of
+takes_claim = record { count = 4; call = λ ns. Claim (get_or ns 0 0) (handle_in ns); is = λ ns. refl }
 
-few_opening : (x : Word) (o : Option (List ℕ)) → phrase_opening (named x (few o)) ≡ phrase_opening (named x o)
-unfolding few named phrase_opening
-few_opening x None = refl
-few_opening x (Some ns) = go (leb (length ns) MOST) refl
-  where
-    go : (t : Bool) → leb (length ns) MOST ≡ t → phrase_opening (named x (cond t (Some ns) None)) ≡ opening_of x ns
-    go true e = refl
-    go false e = opening_none x ns (leb-false (length ns) MOST e)
+unfoldable pub takes_free : Takes Free
+unfolding call_of
+takes_free = record { count = 4; call = λ ns. Release (get_or ns 0 0) (handle_in ns); is = λ ns. refl }
 
-pub few_phrase_call : (ws : List (List ℕ)) → phrase_call (few_phrase ws) ≡ phrase_call (phrase_of ws)
-unfolding few_phrase phrase_of
-few_phrase_call [] = refl
-few_phrase_call (w ∷ ws) = few_call (word_of w) (numbers ws)
+unfoldable pub takes_all : Takes All
+unfolding call_of
+takes_all = record { count = 1; call = λ ns. FreeAll (get_or ns 0 0); is = λ ns. refl }
 
-pub few_phrase_opening : (ws : List (List ℕ)) → phrase_opening (few_phrase ws) ≡ phrase_opening (phrase_of ws)
-unfolding few_phrase phrase_of
-few_phrase_opening [] = refl
-few_phrase_opening (w ∷ ws) = few_opening (word_of w) (numbers ws)
+unfoldable pub takes_realloc : Takes Realloc
+unfolding call_of
+takes_realloc = record { count = 5; call = λ ns. Reallocate (get_or ns 0 0) (handle_in ns) (get_or ns 4 0); is = λ ns. refl }
 
--- the first n of an array's numbers, where the call takes k
-module _ (n : ℕ) (vs : List ℕ) (fits : n ≤ length vs) where
-  taken : (k : ℕ) (c d : Call) → (n ≡ k → c ≡ d) → cond (eqb n k) (Some c) None ≡ taking k (take n vs) d
-  unfolding taking
-  taken k c d f = rw (length-take-le n vs fits) (go (eqb n k) refl)
+module _ (x : Word) (t : Takes x) where
+  pub asks_none : (o : Option (List ℕ)) → None ≡ exactly t.count o → None ≡ phrase_call (named x o)
+  unfolding exactly taking phrase_call named
+  asks_none None e = refl
+  asks_none (Some ns) e = go (eqb (length ns) t.count) refl
     where
-      go : (t : Bool) → eqb n k ≡ t → cond t (Some c) None ≡ cond t (Some d) None
-      go true e = ap Some (f (eqb-true n k e))
-      go false e = refl
+      go : (b : Bool) → eqb (length ns) t.count ≡ b → None ≡ call_of x ns
+      go true q =
+          let w : None ≡ Some ns = e ∙ rw q in
+          let z : ◌≡◌ {A = ℕ} 0 1 = cc in
+          absurd (omega arith)
+      go false q = sym (t.is ns ∙ rw q)
 
-  at : (i : ℕ) → i < n → get_or vs i 0 ≡ get_or (take n vs) i 0
-  at i h = sym (get_or-take n vs i 0 h)
+  pub asks_some : (o : Option (List ℕ)) (vs : List ℕ) → Some vs ≡ exactly t.count o → Some (t.call vs) ≡ phrase_call (named x o)
+  unfolding exactly taking phrase_call named
+  asks_some None vs e =
+      let z : ◌≡◌ {A = ℕ} 0 1 = cc in
+      absurd (omega arith)
+  asks_some (Some ns) vs e = go (eqb (length ns) t.count) refl
+    where
+      go : (b : Bool) → eqb (length ns) t.count ≡ b → Some (t.call vs) ≡ call_of x ns
+      go true q =
+          let w : Some vs ≡ Some ns = e ∙ rw q in
+          let v : vs ≡ ns = cc in
+          ap (λ ms. Some (t.call ms)) v ∙ sym (t.is ns ∙ rw q)
+      go false q =
+          let w : Some vs ≡ None = e ∙ rw q in
+          let z : ◌≡◌ {A = ℕ} 0 1 = cc in
+          absurd (omega arith)
 
-  handle_at : 3 < n → handle_in vs ≡ handle_in (take n vs)
-  handle_at h i = record { base = at 1 (omega arith) i; length = at 2 (omega arith) i; serial = at 3 (omega arith) i }
+-- a name that no call has
+open_asks_nothing : (o : Option (List ℕ)) → None ≡ phrase_call (named Open o)
+unfolding phrase_call named call_of
+open_asks_nothing None = refl
+open_asks_nothing (Some ns) = refl
 
-  pub call_alloc : cond (eqb n 2) (Some (Allocate (get_or vs 0 0) (get_or vs 1 0))) None ≡ call_of Alloc (take n vs)
-  unfolding call_of
-  call_alloc = taken 2 (Allocate (get_or vs 0 0) (get_or vs 1 0)) (Allocate (get_or (take n vs) 0 0) (get_or (take n vs) 1 0))
-      (λ e i. Allocate (at 0 (omega arith) i) (at 1 (omega arith) i))
+unknown_asks_nothing : (o : Option (List ℕ)) → None ≡ phrase_call (named Unknown o)
+unfolding phrase_call named call_of
+unknown_asks_nothing None = refl
+unknown_asks_nothing (Some ns) = refl
 
-  pub call_array : cond (eqb n 3) (Some (AllocateArray (get_or vs 0 0) (get_or vs 1 0) (get_or vs 2 0))) None ≡ call_of Array (take n vs)
-  unfolding call_of
-  call_array =
-      taken 3 (AllocateArray (get_or vs 0 0) (get_or vs 1 0) (get_or vs 2 0))
-      (AllocateArray (get_or (take n vs) 0 0) (get_or (take n vs) 1 0) (get_or (take n vs) 2 0))
-      (λ e i. AllocateArray (at 0 (omega arith) i) (at 1 (omega arith) i) (at 2 (omega arith) i))
+pub asks_nothing : (x : Word) (o : Option (List ℕ)) → (x ≡ Open) ⊎ (x ≡ Unknown) → None ≡ phrase_call (named x o)
+asks_nothing x o (inl e) = open_asks_nothing o ∙ ap (λ (y : Word). phrase_call (named y o)) (sym e)
+asks_nothing x o (inr e) = unknown_asks_nothing o ∙ ap (λ (y : Word). phrase_call (named y o)) (sym e)
 
-  pub call_claim : cond (eqb n 4) (Some (Claim (get_or vs 0 0) (handle_in vs))) None ≡ call_of ClaimWord (take n vs)
-  unfolding call_of
-  call_claim = taken 4 (Claim (get_or vs 0 0) (handle_in vs)) (Claim (get_or (take n vs) 0 0) (handle_in (take n vs)))
-      (λ e i. Claim (at 0 (omega arith) i) (handle_at (omega arith) i))
+-- an opening: its name, the heap's length and as many grants as there are quotas
+pub opens_no_heap : (h : Option ℕ) (o : Option (List ℕ)) → None ≡ h → None ≡ phrase_opening (named Open (join_number h o))
+unfolding phrase_opening named join_number
+opens_no_heap h o e = ap (λ x. phrase_opening (named Open (join_number x o))) e
 
-  pub call_free : cond (eqb n 4) (Some (Release (get_or vs 0 0) (handle_in vs))) None ≡ call_of Free (take n vs)
-  unfolding call_of
-  call_free = taken 4 (Release (get_or vs 0 0) (handle_in vs)) (Release (get_or (take n vs) 0 0) (handle_in (take n vs)))
-      (λ e i. Release (at 0 (omega arith) i) (handle_at (omega arith) i))
+pub opens_no_grants : (h : Option ℕ) (o : Option (List ℕ)) → None ≡ exactly QUOTAS o → None ≡ phrase_opening (named Open (join_number h o))
+unfolding phrase_opening named join_number exactly opening_of
+opens_no_grants None o e = refl
+opens_no_grants (Some n) None e = refl
+opens_no_grants (Some n) (Some ns) e = go (eqb (length ns) QUOTAS) refl
+  where
+    go : (b : Bool) → eqb (length ns) QUOTAS ≡ b → None ≡ opening_of Open (n ∷ ns)
+    go true q =
+        let w : None ≡ Some ns = e ∙ rw q in
+        let z : ◌≡◌ {A = ℕ} 0 1 = cc in
+        absurd (omega arith)
+    go false q = sym (rw (ne_eqb (length (n ∷ ns)) (QUOTAS + 1) (λ l. omega (arith, l, eqb-false (length ns) QUOTAS q))))
 
-  pub call_all : cond (eqb n 1) (Some (FreeAll (get_or vs 0 0))) None ≡ call_of All (take n vs)
-  unfolding call_of
-  call_all = taken 1 (FreeAll (get_or vs 0 0)) (FreeAll (get_or (take n vs) 0 0)) (λ e i. FreeAll (at 0 (omega arith) i))
+pub opens_with : (h : Option ℕ) (o : Option (List ℕ)) (n : ℕ) (vs : List ℕ) → Some n ≡ h → Some vs ≡ exactly QUOTAS o
+    → Some (record { heap = n; grants = vs }) ≡ phrase_opening (named Open (join_number h o))
+unfolding phrase_opening named join_number exactly opening_of
+opens_with None o n vs e f = let z : ◌≡◌ {A = ℕ} 0 1 = cc in absurd (omega arith)
+opens_with (Some m) None n vs e f = let z : ◌≡◌ {A = ℕ} 0 1 = cc in absurd (omega arith)
+opens_with (Some m) (Some ns) n vs e f = go (eqb (length ns) QUOTAS) refl
+  where
+    go : (b : Bool) → eqb (length ns) QUOTAS ≡ b → Some (record { heap = n; grants = vs }) ≡ opening_of Open (m ∷ ns)
+    go true q =
+        let w : Some vs ≡ Some ns = f ∙ rw q in
+        let v : vs ≡ ns = cc in
+        let u : n ≡ m = cc in
+        (λ i. Some (record { heap = u i; grants = v i })) ∙ sym (rw (eq-eqb (length (m ∷ ns)) (QUOTAS + 1) (omega (arith, eqb-true (length ns) QUOTAS q))))
+    go false q =
+        let w : Some vs ≡ None = f ∙ rw q in
+        let z : ◌≡◌ {A = ℕ} 0 1 = cc in
+        absurd (omega arith)
 
-  pub call_realloc : cond (eqb n 5) (Some (Reallocate (get_or vs 0 0) (handle_in vs) (get_or vs 4 0))) None ≡ call_of Realloc (take n vs)
-  unfolding call_of
-  call_realloc =
-      taken 5 (Reallocate (get_or vs 0 0) (handle_in vs) (get_or vs 4 0))
-      (Reallocate (get_or (take n vs) 0 0) (handle_in (take n vs)) (get_or (take n vs) 4 0))
-      (λ e i. Reallocate (at 0 (omega arith) i) (handle_at (omega arith) i) (at 4 (omega arith) i))
+-- another name, and no grants at all
+pub opens_nothing : (x : Word) (o : Option (List ℕ)) → (x ≡ Open → ⊥) → None ≡ phrase_opening (named x o)
+unfolding phrase_opening named opening_of
+opens_nothing x None e = refl
+opens_nothing Open (Some ns) e = absurd (e refl)
+opens_nothing Alloc (Some ns) e = refl
+opens_nothing Array (Some ns) e = refl
+opens_nothing ClaimWord (Some ns) e = refl
+opens_nothing Free (Some ns) e = refl
+opens_nothing All (Some ns) e = refl
+opens_nothing Realloc (Some ns) e = refl
+opens_nothing Unknown (Some ns) e = refl
 
--- an opening has as many numbers as the array
-pub opens_fewer : (n : ℕ) (vs : List ℕ) (x : Word) → n ≤ length vs → (n ≡ MOST → ⊥) → None ≡ opening_of x (take n vs)
-unfolding opening_of
-opens_fewer n vs Open h e = rw (length-take-le n vs h, ne_eqb n (QUOTAS + 1) e)
-opens_fewer n vs Alloc h e = refl
-opens_fewer n vs Array h e = refl
-opens_fewer n vs ClaimWord h e = refl
-opens_fewer n vs Free h e = refl
-opens_fewer n vs All h e = refl
-opens_fewer n vs Realloc h e = refl
-opens_fewer n vs Unknown h e = refl
+opens_alone : (h : Option ℕ) → None ≡ phrase_opening (named Open (join_number h (Some [])))
+unfolding phrase_opening named join_number opening_of
+opens_alone None = refl
+opens_alone (Some n) = refl
+
+-- an opening's name, and what stands behind it: one word, or the heap's length and the grants
+module _ (l name rest : List ℕ) (m : Cut SPACE l name rest) (e : Open ≡ word_of name) where
+  pub opening_one : split SPACE rest ≡ rest ∷ [] → None ≡ line_opening l
+  unfolding numbers
+  opening_one q = opens_alone (read_number rest) ∙ sym (ap (λ ws. phrase_opening (named Open (numbers ws))) q) ∙ line_opening_is l name rest m Open e
+
+  pub opening_two : (heap grants : List ℕ) → Cut SPACE rest heap grants
+      → phrase_opening (named Open (join_number (read_number heap) (numbers (words grants)))) ≡ line_opening l
+  unfolding numbers
+  opening_two heap grants q = sym (ap (λ ws. phrase_opening (named Open (numbers ws))) q.parts) ∙ line_opening_is l name rest m Open e

@@ -1,13 +1,13 @@
-pub mod Told
 pub mod Puts
 pub mod Spelling
 pub mod Reading
-pub mod Marks
 pub mod Gathering
 pub mod Asking
 pub mod Phrases
 pub mod Answering
 pub mod Running
+pub mod Cuts
+pub mod Tails
 pub mod Listings
 pub mod LineRuns
 pub mod Openings

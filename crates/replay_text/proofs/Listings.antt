@@ -1,6 +1,7 @@
 -- The list at the end: a state that a history leads to passes the check, so that the listing's call gives its blocks one after the other.
 use Rattle.model.specs.declared.Refusal.{Refusal}
-use Rattle.std.specs.Prelude.{Some, None, Option, Result, Ok}
+use Rattle.std.specs.Prelude.{Some, None, Option, Result, Ok, Err, IfSome}
+use Rattle.std.specs.Result.{result_unwrap_or}
 use mathlib.Core.Path.{◌≡◌, refl, ap, sym, subst, ◌∙◌}
 use mathlib.Core.List.{List, [], ◌∷◌, ◌++◌, append-nil}
 use Prim.Native.Nat.{ℕ, ◌+◌, ◌≤◌}
@@ -23,16 +24,27 @@ use Rattle.replay_model.specs.Replay.{block_line, block_lines}
 use Rattle.replay_model.specs.Events.{Reached}
 use Rattle.replay_model.proofs.Reaching.{reached_checked}
 
+-- the block that an answer lists
+listed_is : (b : Result (Option ListedBlock) Refusal) → result_unwrap_or b None ≡ (block_values b).block
+unfolding block_values
+listed_is (Ok (Some l)) = refl
+listed_is (Ok None) = refl
+listed_is (Err r) = refl
+
 -- what the listing's call gives at a place of a state that a history leads to
 module _ (s : List ℕ) (k : Accounts) (r : Reached s k) (place : ℕ) (b : Result (Option ListedBlock) Refusal)
     (told : outcome s k (block_values b) ≡ list_block (table k.edition) s k place) where
-  pub given_at : (block_values b).block ≡ block_at (blocks_of s) place
+  given_at : (block_values b).block ≡ block_at (blocks_of s) place
   given_at = ap (λ (o : Outcome). o.values.block) (told ∙ list_block_step (table k.edition) s k place (reached_checked s k r))
 
-  pub given_ends : (l : ListedBlock) → b ≡ Ok (Some l) → l.offset + l.size ≤ length s
-  unfolding block_values
-  given_ends l e = given_inside (table k.edition) s k place l
-      (sym (ap (λ (o : Outcome). o.values.block) told) ∙ ap (λ (x : Result (Option ListedBlock) Refusal). (block_values x).block) e)
+  -- and so the block that is there, if there is one
+  pub given_is : result_unwrap_or b None ≡ block_at (blocks_of s) place
+  given_is = listed_is b ∙ given_at
+
+  pub given_ends : (x : Option ListedBlock) → x ≡ result_unwrap_or b None → IfSome x (λ l. l.offset + l.size ≤ length s)
+  given_ends None e = tt
+  given_ends (Some l) e =
+      given_inside (table k.edition) s k place l (sym (ap (λ (o : Outcome). o.values.block) told) ∙ sym (listed_is b) ∙ sym e)
 
 -- of the blocks bs, the blocks ys are left, and begin at a place
 pub record Passing (bs : List Block) (place : ℕ) (ys : List Block) : Type 0 where

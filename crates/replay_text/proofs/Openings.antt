@@ -8,11 +8,10 @@ use Prim.Native.Nat.{ℕ, zero, suc, ◌%◌, ◌≤◌, ◌<◌}
 use native.Mathlib.Omega.{arith}
 use native.Mathlib.Nat.{not-suc-le-zero, le_of_suc-le-suc}
 use lib.Dec.{leb, eqb}
-use borrow.Author.Tests.{lt-leb, eq-eqb, ne_eqb}
+use borrow.Author.Tests.{lt-leb, ne_eqb}
 use lib.ListN.{length, take, replicate, length-replicate}
-use lib.Seq.{length-take-le}
 use Rattle.accounts.specs.declared.Accounts.{Accounts}
-use Rattle.model.specs.Answers.{Values, accepted, verdict_values}
+use Rattle.model.specs.Answers.{verdict_values, refusal_number}
 use Rattle.model.specs.Consistent.{allowed}
 use Rattle.model.specs.Refusals.{first_refusal, line_1, open_lines}
 use Rattle.accounts.specs.Accounts.{plain}
@@ -24,43 +23,26 @@ use Rattle.results.specs.Results.{outcome}
 use Rattle.replay_model.specs.Replay.{ok_line, no_line, run_lines, run_opened}
 use Rattle.replay_model.specs.Events.{Reached, Granted}
 use Rattle.replay_text.specs.Clauses.{Zeros}
-use Rattle.replay_text.specs.Answered.{verdict_refusal}
-
--- a verdict's refusal is that of its values, and none where it is accepted
-verdict_is : (v : Result (Unit {0}) Refusal) → verdict_refusal v ≡ (verdict_values v).refusal
-unfolding verdict_values
-verdict_is (Ok tt) = refl
-verdict_is (Err r) = refl
-
-verdict_accepted : (v : Result (Unit {0}) Refusal) → verdict_refusal v ≡ 0 → verdict_values v ≡ accepted
-unfolding verdict_values
-verdict_accepted (Ok tt) e = refl
-verdict_accepted (Err r) e =
-    let p = (refusal_number_is r).1 in
-    absurd (omega arith)
 
 -- an opening that gave this verdict
-module _ (s grants s' : List ℕ) (k : Accounts) (v : Result (Unit {0}) Refusal) (told : outcome s' k (verdict_values v) ≡ open_heap plain s grants) (n : ℕ)
-    (e : n ≡ verdict_refusal v) where
-  pub opened_refused : (ls : List (List ℕ)) → (n ≡ 0 → ⊥) → no_line n ≡ run_opened (open_heap plain s grants) ls
-  unfolding run_opened
-  opened_refused ls h =
-      let q : n ≡ (verdict_values v).refusal = e ∙ verdict_is v in
-      ap no_line q
-      ∙ sym (ap (λ (t : Bool). cond t (ok_line [] ++ run_lines ls s' k) (no_line (verdict_values v).refusal))
-      (ne_eqb (verdict_values v).refusal 0 (λ z. h (q ∙ z))))
+module _ (s grants s' : List ℕ) (k : Accounts) (v : Result (Unit {0}) Refusal) (told : outcome s' k (verdict_values v) ≡ open_heap plain s grants) where
+  pub opened_refused : (ls : List (List ℕ)) (r : Refusal) → v ≡ Err r → no_line (refusal_number r) ≡ run_opened (open_heap plain s grants) ls
+  unfolding run_opened verdict_values
+  opened_refused ls r e =
+      let p = (refusal_number_is r).1 in
+      sym (ap (λ (t : Bool). cond t (ok_line [] ++ run_lines ls s' k) (no_line (refusal_number r))) (ne_eqb (refusal_number r) 0 (λ z. omega arith)))
+      ∙ ap (λ (x : Result (Unit {0}) Refusal). run_opened (outcome s' k (verdict_values x)) ls) (sym e)
       ∙ ap (λ (o : Outcome). run_opened o ls) told
 
-  pub opened_runs : (ls : List (List ℕ)) → n ≡ 0 → ok_line [] ++ run_lines ls s' k ≡ run_opened (open_heap plain s grants) ls
-  unfolding run_opened
-  opened_runs ls z =
-      let q : n ≡ (verdict_values v).refusal = e ∙ verdict_is v in
-      sym (ap (λ (t : Bool). cond t (ok_line [] ++ run_lines ls s' k) (no_line (verdict_values v).refusal))
-      (eq-eqb (verdict_values v).refusal 0 (sym q ∙ z)))
+  pub opened_runs : (ls : List (List ℕ)) → v ≡ Ok tt → ok_line [] ++ run_lines ls s' k ≡ run_opened (open_heap plain s grants) ls
+  unfolding run_opened verdict_values
+  opened_runs ls e =
+      ap (λ (x : Result (Unit {0}) Refusal). run_opened (outcome s' k (verdict_values x)) ls) (sym e)
       ∙ ap (λ (o : Outcome). run_opened o ls) told
 
-  pub opened_reached : Granted grants → n ≡ 0 → Reached s' k
-  opened_reached g z =
+  pub opened_reached : Granted grants → v ≡ Ok tt → Reached s' k
+  unfolding verdict_values
+  opened_reached g e =
       record {
         grants = grants;
         events = [];
@@ -69,7 +51,7 @@ module _ (s grants s' : List ℕ) (k : Accounts) (v : Result (Unit {0}) Refusal)
               before = s;
               quotas = g.quotas;
               narrow = g.narrow;
-              opens = sym told ∙ ap (λ (x : Values). outcome s' k x) (verdict_accepted v (sym e ∙ z));
+              opens = sym told ∙ ap (λ (x : Result (Unit {0}) Refusal). outcome s' k (verdict_values x)) e;
             });
       }
 
@@ -93,8 +75,3 @@ take_zeros (suc n) (suc m) h = ap (λ (s : List ℕ). 0 ∷ s) (take_zeros n m (
 
 pub zeros_front : (n m : ℕ) (s : List ℕ) → n ≤ m → Zeros m s → take n s ≡ replicate n 0
 zeros_front n m s h z = ap (take n) z.zeros ∙ take_zeros n m h
-
-pub zeros_length : (n m : ℕ) (s : List ℕ) → n ≤ m → Zeros m s → n ≡ length (take n s)
-zeros_length n m s h z =
-    let l = z.long in
-    sym (length-take-le n s (omega arith))

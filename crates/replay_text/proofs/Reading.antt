@@ -1,57 +1,37 @@
 -- Reading a part of an input byte by byte: the digits of a number, the bytes of a word, and the parts between marks.
 use mathlib.Core.Path.{◌≡◌, refl, ap, sym, ◌∙◌}
 use mathlib.Core.List.{List, [], ◌∷◌}
-use mathlib.Core.Bool.{◌&&◌}
+use mathlib.Core.Bool.{true, false, ◌&&◌}
 use Prim.Native.Nat.{ℕ, ◌+◌, ◌*◌, ◌-◌, ◌≤◌, ◌<◌}
 use native.Mathlib.Omega.{arith}
 use native.Mathlib.Numerals.{add-one}
 use lib.Dec.{eqb}
 use borrow.Author.Tests.{le-leb, lt-leb, eq-eqb, ne_eqb}
-use lib.ListN.{length, take, drop, get_or, drop_of_length-le}
-use Rattle.std.proofs.lemmas.List.{drop-take}
-use lib.Seq.{slice, take-length, slice_empty, slice-cons, drop-cons}
+use lib.ListN.{length, drop, get_or, drop_of_length-le}
+use lib.Seq.{drop-cons}
 use Rattle.std.specs.Prelude.{nat_eq, Some, None}
 use Rattle.std.specs.Cmp.Lexicographic.{pointwise}
 use Rattle.replay_model.specs.Text.{is_digit, read_on, read_number, greatest_number, same}
 
--- the first byte of a part, and the part behind it
-pub part_cons : (from to : ℕ) (s : List ℕ) (b : ℕ) → from < to → to ≤ length s → b ≡ get_or s from 0 → slice from to s ≡ b ∷ slice (from + 1) to s
-part_cons from to s b h k e = slice-cons from to s 0 h k ∙ (λ i. sym e i ∷ slice (sym (add-one from) i) to s)
+-- one digit more, where digits are read behind the number n: the next byte is none, or gives too large a number, or is read
+module _ (n i : ℕ) (w : List ℕ) (h : i < length w) where
+  next_byte : drop i w ≡ get_or w i 0 ∷ drop (i + 1) w
+  next_byte = drop-cons w i 0 h ∙ ap (λ (k : ℕ). get_or w i 0 ∷ drop k w) (sym (add-one i))
 
-pub part_none : (from to : ℕ) (s : List ℕ) → to ≤ from → from ≤ to → slice from to s ≡ []
-part_none from to s h k =
-    let e : from ≡ to = omega arith in
-    ap (λ (n : ℕ). slice n to s) e ∙ slice_empty to s
+  pub digit_none : is_digit (get_or w i 0) ≡ false → None ≡ read_on n (drop i w)
+  unfolding read_on
+  digit_none e = sym (rw (next_byte, e))
 
--- a part, as the code takes it; and the rest, and the whole, as parts
-pub part_is : (from to : ℕ) (s : List ℕ) → from ≤ to → take (to - from) (drop from s) ≡ slice from to s
-part_is from to s h =
-    let e : from + (to - from) ≡ to = omega arith in
-    sym (drop-take from (to - from) s) ∙ ap (λ (n : ℕ). drop from (take n s)) e
+  pub digit_large : is_digit (get_or w i 0) ≡ true → greatest_number < n * 10 + (get_or w i 0 - 48) → None ≡ read_on n (drop i w)
+  unfolding read_on
+  digit_large e g = sym (rw (next_byte, e, lt-leb (n * 10 + (get_or w i 0 - 48)) greatest_number g))
 
-pub rest_is : (from : ℕ) (s : List ℕ) → drop from s ≡ slice from (length s) s
-rest_is from s = ap (drop from) (sym (take-length s))
-
--- one digit more, where digits are read behind the number n: the byte b comes next
-module _ (n i : ℕ) (w : List ℕ) (b : ℕ) (h : i < length w) (e : b ≡ get_or w i 0) where
-  next_byte : drop i w ≡ b ∷ drop (i + 1) w
-  next_byte = drop-cons w i 0 h ∙ (λ j. sym e j ∷ drop (sym (add-one i) j) w)
-
-  pub digit_low : b < 48 → None ≡ read_on n (drop i w)
-  unfolding read_on is_digit
-  digit_low l = sym (rw (next_byte, lt-leb 48 b l))
-
-  pub digit_high : 48 ≤ b → 57 < b → None ≡ read_on n (drop i w)
-  unfolding read_on is_digit
-  digit_high l m = sym (rw (next_byte, le-leb 48 b l, lt-leb b 57 m))
-
-  pub digit_large : 48 ≤ b → b ≤ 57 → greatest_number < n * 10 + (b - 48) → None ≡ read_on n (drop i w)
-  unfolding read_on is_digit
-  digit_large l m g = sym (rw (next_byte, le-leb 48 b l, le-leb b 57 m, lt-leb (n * 10 + (b - 48)) greatest_number g))
-
-  pub digit_more : 48 ≤ b → b ≤ 57 → n * 10 + (b - 48) ≤ greatest_number → read_on (n * 10 + (b - 48)) (drop (i + 1) w) ≡ read_on n (drop i w)
-  unfolding read_on is_digit
-  digit_more l m g = sym (rw (next_byte, le-leb 48 b l, le-leb b 57 m, le-leb (n * 10 + (b - 48)) greatest_number g))
+  pub digit_more : (next : ℕ) → is_digit (get_or w i 0) ≡ true → next ≡ n * 10 + (get_or w i 0 - 48) → next ≤ greatest_number
+      → read_on next (drop (i + 1) w) ≡ read_on n (drop i w)
+  unfolding read_on
+  digit_more next e q g =
+      ap (λ (k : ℕ). read_on k (drop (i + 1) w)) q
+      ∙ sym (rw (next_byte, e, le-leb (n * 10 + (get_or w i 0 - 48)) greatest_number (omega arith)))
 
 pub digits_done : (n i : ℕ) (w : List ℕ) → length w ≤ i → Some n ≡ read_on n (drop i w)
 unfolding read_on

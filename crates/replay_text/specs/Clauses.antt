@@ -1,100 +1,51 @@
--- What the functions of this crate say of places in an input and in an output.
-use Rattle.std.specs.Prelude.{ℕ, ◌+◌, ◌≤◌, ◌<◌, ◌≡◌, List, [], ◌∷◌, Bool, true, false, cond, leb, length, get_or, take, replicate, Some, None, Option}
-use Rattle.accounts.specs.Accounts.{QUOTAS}
+-- What the functions of this crate say of parts of an input and of an output.
+use Rattle.std.specs.Prelude.{ℕ, ◌+◌, ◌≤◌, ◌≡◌, List, [], ◌∷◌, ◌++◌, cond, eqb, length, replicate, Some, None, Option, Result, Ok, Err}
+use Rattle.std.specs.Borrow.{Bor}
 use Rattle.layout.specs.Bytes.{overwrite}
-use Rattle.model.specs.declared.Call.{Call}
-use Rattle.replay_model.specs.declared.Word.{Word}
-use Rattle.replay_model.specs.declared.Word.TheVariants.{Open, Alloc, Array, Claim, Free, All, Realloc, Unknown}
-use Rattle.replay_text.specs.declared.Line.{Line}
+use Rattle.model.specs.Answers.{Values, refusal_number}
+use Rattle.model.specs.declared.Handle.{Handle}
+use Rattle.model.specs.declared.Refusal.{Refusal}
+use Rattle.replay_model.specs.Lines.{split}
+use Rattle.replay_model.specs.Commands.{Opening}
+use Rattle.replay_text.specs.declared.output.Output.{Output}
 use Rattle.replay_text.specs.declared.Opening.{Opening as OpenLine}
-use Rattle.replay_model.specs.Lines.{words, numbers}
-use Rattle.replay_model.specs.Commands.{Phrase, Opening, word_of, named}
 
--- r is the first place of a byte in a part of s, from a place up to another, and the part's end where there is none
-pub record FirstMark (mark from to : ℕ) (s : List ℕ) (r : ℕ) : Type 0 where
-  pub low : from ≤ r
-  pub high : r ≤ to
-  pub absent : (i : ℕ) → from ≤ i → i < r → get_or s i 0 ≡ mark → ⊥
-  pub found : r < to → get_or s r 0 ≡ mark
+-- a part of s, and what stands behind the first byte `mark`, which ends it
+pub record Cut (mark : ℕ) (s part rest : List ℕ) : Type 0 where
+  pub whole : s ≡ part ++ (mark ∷ rest)
+  pub parts : split mark s ≡ part ∷ split mark rest
 
--- an output has room for a text at a place
-pub record Room (at : ℕ) (text s : List ℕ) : Type 0 where
-  pub fits : at + length text ≤ length s
+-- the parts of what is left of a text, none behind the last
+abbrev pub parts_left : ℕ → Option (Bor (List ℕ)) → List (List ℕ)
+parts_left mark None = []
+parts_left mark (Some rest) = split mark rest.now
 
--- a text was written at a place of an output: what the output was and is, and the place behind the text
-pub record Put (at : ℕ) (text before after : List ℕ) (r : ℕ) : Type 0 where
-  pub bytes : after ≡ overwrite at text before
-  pub next : r ≡ at + length text
+-- an output has room for a text behind what is written
+pub record Room (text : List ℕ) (o : Output) : Type 0 where
+  pub fits : o.written + length text ≤ length o.bytes.now
+
+-- a text was written behind what was written of an output, and it is the same bytes that are lent
+pub record Put (text : List ℕ) (before after : Output) : Type 0 where
+  pub bytes : after.bytes.now ≡ overwrite before.written text before.bytes.now
+  pub next : after.written ≡ before.written + length text
+  pub same_reference : after.bytes.ghost_name ≡ before.bytes.ghost_name
+
+-- the numbers that an answer with these values prints: its handle and its amount, or its refusal
+abbrev pub Tells : Values → Result (Handle × ℕ) Refusal → Type 0
+Tells v (Ok (h, n)) = (v.refusal ≡ 0) × (v.handle ≡ h) × (v.amount ≡ n)
+Tells v (Err r) = v.refusal ≡ refusal_number r
 
 -- so many zeros
 pub record Zeros (n : ℕ) (s : List ℕ) : Type 0 where
   pub long : length s ≡ n
   pub zeros : s ≡ replicate n 0
 
--- a number, if it is one
-abbrev pub number_value : Option ℕ → Option ℕ
-number_value (Some n) = Some n
-number_value None = None
-
--- the most numbers that a line has: those of an opening
-abbrev pub MOST : ℕ
-MOST = QUOTAS + 1
-
--- the numbers of a line, where it has no more than that
-unfoldable pub few : Option (List ℕ) → Option (List ℕ)
-few None = None
-few (Some ns) = cond (leb (length ns) MOST) (Some ns) None
-
--- the numbers that were read into an array, and how many
-abbrev pub counted : Option ℕ → List ℕ → Option (List ℕ)
-counted (Some n) values = Some (take n values)
-counted None values = None
-
-abbrev pub count_of : Option ℕ → ℕ
-count_of (Some n) = n
-count_of None = 0
-
--- what was read of these words
-pub record Counted (ws : List (List ℕ)) (values : List ℕ) (r : Option ℕ) : Type 0 where
-  pub told : counted r values ≡ few (numbers ws)
-  pub small : count_of r ≤ MOST
-  pub kept : length values ≡ MOST
-
--- a line as it was read
-abbrev pub line_phrase : Option Line → Option Phrase
-line_phrase None = None
-line_phrase (Some l) = Some (record { name = l.name; values = take l.count l.values })
-
-abbrev pub LineFits : Option Line → Type 0
-LineFits None = Unit {0}
-LineFits (Some l) = (l.count ≤ MOST) × (length l.values ≡ MOST)
-
--- the name and the numbers of words, where there are no more than any line has
-unfoldable pub few_phrase : List (List ℕ) → Option Phrase
-few_phrase [] = None
-few_phrase (w ∷ ws) = named (word_of w) (few (numbers ws))
-
--- what was read of a line
-pub record LineRead (l : List ℕ) (r : Option Line) : Type 0 where
-  pub told : line_phrase r ≡ few_phrase (words l)
-  pub fits : LineFits r
-
--- a call, if one is asked for
-abbrev pub asked_call : Option Call → Option Call
-asked_call (Some c) = Some c
-asked_call None = None
+-- these numbers, where there are exactly so many
+unfoldable pub exactly : ℕ → Option (List ℕ) → Option (List ℕ)
+exactly k None = None
+exactly k (Some ns) = cond (eqb (length ns) k) (Some ns) None
 
 -- an opening as it was read, if one is asked for
 abbrev pub opening_line : Option Opening → Option OpenLine
 opening_line None = None
 opening_line (Some o) = Some (record { heap = o.heap; grants = o.grants })
-
-abbrev pub is_open : Word → Bool
-is_open Open = true
-is_open Alloc = false
-is_open Array = false
-is_open Claim = false
-is_open Free = false
-is_open All = false
-is_open Realloc = false
-is_open Unknown = false

@@ -1,4 +1,3 @@
 -- What the contracts cite.
 pub mod Answer
 pub mod Clauses
-pub mod Answered

@@ -2,7 +2,7 @@
 #![tactic(auto)]
 
 use accounts::QUOTAS;
-use replay_model::Word;
+use output::Output;
 
 mod answers;
 mod commands;
@@ -12,24 +12,15 @@ mod run;
 mod tokens;
 
 ghost use Rattle.std.specs.Prelude.{◌≡◌};
+ghost use Rattle.replay_model.specs.Replay.{replay};
 ghost use Rattle.replay_text.specs.Answer.{replayed};
+ghost use Rattle.replay_text.specs.Clauses.{Room, Put};
 
 // The most bytes of input that are read.
 pub const LONGEST: usize = 65536;
 
 // The bytes of output that are enough for every input: six for each byte of the longest input, and three more for the list of blocks.
 pub const OUTPUT: usize = 589824;
-
-// The most numbers that a line has: those of an opening, the heap's length and the grants.
-pub(crate) const MOST: usize = QUOTAS + 1;
-
-// A line as a name and numbers, the first `count` of `values`.
-#[derive(Clone, Copy)]
-pub(crate) struct Line {
-    name: Word,
-    count: usize,
-    values: [u32; MOST],
-}
 
 // The opening that a line asks for: the heap's length and the grants.
 #[derive(Clone, Copy)]
@@ -38,16 +29,28 @@ pub(crate) struct Opening {
     grants: [u32; QUOTAS],
 }
 
+// The replay of an input, on an output that has room for it: too long an input is a line of another kind.
+fn print_replay(input: &[u8], output: &mut Output<'_>)
+    requires { Room (replay input.now) output.old }
+    ensures { Put (replay input.now) output.old output.new }
+{
+    if LONGEST < input.len() {
+        answers::put_bad(output);
+    } else {
+        run::run_all(input, output);
+    }
+}
+
 // The replay of an input: what the lines print, at the front of the output, and how many bytes these are; nothing is
 // written to an output that is shorter than OUTPUT.
+#[tactic(auto, using(crate::proofs::InputRuns::replay_short))]
 pub fn replay(input: &[u8], output: &mut [u8]) -> Option<usize>
     ensures { record { answer = result; output = output.new } ≡ replayed input.now output.old }
 {
     if output.len() < OUTPUT {
         return None;
     }
-    if LONGEST < input.len() {
-        return Some(answers::put_bad(output, 0));
-    }
-    Some(run::run_all(input, output))
+    let mut printed = Output::new(output);
+    print_replay(input, &mut printed);
+    Some(printed.written)
 }

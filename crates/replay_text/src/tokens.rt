@@ -1,24 +1,40 @@
-// Words of a line: where they end, and which name a word is.
-ghost use Rattle.std.specs.Prelude.{◌≡◌, ◌≤◌, length};
+// Parts of an input: lines and words up to their mark, and the name that a word is.
+ghost use Rattle.std.specs.Prelude.{◌≡◌, ◌==◌, [], ◌∷◌, MatchOption};
+ghost use Rattle.std.specs.List.{position};
+ghost use Rattle.replay_model.specs.Lines.{split};
 ghost use Rattle.replay_model.specs.Commands.{word_of};
-ghost use Rattle.replay_text.specs.Clauses.{FirstMark};
+ghost use Rattle.replay_text.specs.Clauses.{Cut, parts_left};
 
 use replay_model::Word;
 
-// The first place of a byte from a place on, and the input's end where there is none.
-pub(crate) fn find_mark(input: &[u8], from: usize, mark: u8) -> usize
-    requires { from ≤ length input.now }
-    ensures { FirstMark mark from (length input.now) input.now result }
+// The place of the first byte `mark`.
+fn place_of(input: &[u8], mark: u8) -> Option<usize>
+    ensures { result ≡ position (λ b. b == mark) input.now }
 {
-    for at in from..input.len() {
-        if input[at] == mark {
-            return at;
-        }
+    input.iter().position(|byte| *byte == mark)
+}
+
+// What stands in front of the first byte `mark`, and what behind it.
+pub(crate) fn split_once(input: &[u8], mark: u8) -> Option<(&[u8], &[u8])>
+    ensures { MatchOption result (split mark input.now ≡ input.now ∷ [])
+        (λ x. Cut mark input.now x.0.now x.1.now) }
+{
+    let at = place_of(input, mark)?;
+    Some((&input[..at], &input[at + 1..]))
+}
+
+// The first part of a text, and what stands behind the mark that ends it.
+pub(crate) fn first_part(text: &[u8], mark: u8) -> (&[u8], Option<&[u8]>)
+    ensures { split mark text.now ≡ result.0.now ∷ parts_left mark result.1 }
+{
+    match split_once(text, mark) {
+        Some((part, rest)) => (part, Some(rest)),
+        None => (text, None),
     }
-    input.len()
 }
 
 // The name that a word is.
+// The names are compared by `==`: tried, and the proof of a match on the texts did not close (a goal for each byte).
 #[tactic(auto, using(crate::proofs::Reading::bytes_same), unfolding(replay_model::specs::Commands::word_of))]
 pub(crate) fn read_word(word: &[u8]) -> Word
     ensures { result ≡ word_of word.now }

@@ -8,7 +8,7 @@ use native.Mathlib.Numerals.{add-one}
 use native.Mathlib.Nat.{pow-zero, pow-suc, pow-succ', mul_assoc, pow-le-pow_right}
 use lib.Pow.{pow-add}
 use lib.ListN.{length, take, drop, get_or, set, length-append, length-take, length-drop}
-use lib.Seq.{take-suc, take-take, get_or-take, get_or-drop, drop-drop, length-take-le}
+use lib.Seq.{take-suc, take-take, get_or-take, drop-drop, take_all, length-take-le}
 use lib.Dec.{leb, eqb, lit<}
 use borrow.Author.Tests.{le-leb, eq-eqb, ne_eqb}
 use Rattle.std.specs.Prelude.{Ok, Err}
@@ -58,78 +58,74 @@ number_fits s e h =
     let p : 16 ^ length s ≤ 16 ^ 8 = pow-le-pow_right (lit< tt) h in
     omega (arith, number_below s e)
 
--- the word at a place, read
-module _ (t : List ℕ) (at : ℕ) (l : at + 8 ≤ length t) (d : all_digits (take 8 (drop at t)) ≡ true) where
-  pub read_more : (i n v : ℕ) → i < 8 → n ≡ number (take i (drop at t)) → v ≡ value (get_or t (at + i) 0)
-      → (n * 16 + v ≡ number (take (i + 1) (drop at t))) × (n * 16 + v < 2 ^ 32)
+-- the word in front, read
+module _ (t : List ℕ) (l : 8 ≤ length t) (d : all_digits (take 8 t) ≡ true) where
+  pub read_more : (i n v : ℕ) → i < 8 → n ≡ number (take i t) → v ≡ value (get_or t i 0)
+      → (n * 16 + v ≡ number (take (i + 1) t)) × (n * 16 + v < 2 ^ 32)
   read_more i n v h e f =
-      let s = drop at t in
-      let k : i < length s = omega (arith, length-drop at t) in
-      let g : value (get_or s i 0) ≡ v = ap value (get_or-drop at t i 0) ∙ sym f in
-      let x : number (take (i + 1) s) ≡ n * 16 + v =
-      ap (λ (j : ℕ). number (take j s)) (add-one i) ∙ ap number (take-suc s i 0 k) ∙ number_snoc (take i s) (get_or s i 0)
-      ∙ (λ j. sym e j * 16 + g j) in
-      let y : all_digits (take (i + 1) s) ≡ true = rw (take-take (i + 1) 8 s (omega arith)) at (digits_take (i + 1) (take 8 s) d) in
-      let z = number_fits (take (i + 1) s) y (omega (arith, length-take (i + 1) s)) in
+      let k : i < length t = omega arith in
+      let x : number (take (i + 1) t) ≡ n * 16 + v =
+      ap (λ (j : ℕ). number (take j t)) (add-one i) ∙ ap number (take-suc t i 0 k) ∙ number_snoc (take i t) (get_or t i 0)
+      ∙ (λ j. sym e j * 16 + sym f j) in
+      let y : all_digits (take (i + 1) t) ≡ true = rw (take-take (i + 1) 8 t (omega arith)) at (digits_take (i + 1) (take 8 t) d) in
+      let z = number_fits (take (i + 1) t) y (omega (arith, length-take (i + 1) t)) in
       (sym x, omega arith)
 
--- a word at a place, tested
-module _ (t : List ℕ) (at m : ℕ) (l : at + 9 ≤ length t) where
-  long : leb 9 (length (drop at t)) ≡ true
-  long = le-leb 9 (length (drop at t)) (omega (arith, length-drop at t))
+-- a word in front, tested
+module _ (t : List ℕ) (m : ℕ) (l : 9 ≤ length t) where
+  long : leb 9 (length t) ≡ true
+  long = le-leb 9 (length t) l
 
-  pub word_stops : (i : ℕ) → i < 8 → is_digit (get_or t (at + i) 0) ≡ false → false ≡ word_right m (drop at t)
+  pub word_stops : (i : ℕ) → i < 8 → is_digit (get_or t i 0) ≡ false → false ≡ word_right m t
   unfolding word_right
   word_stops i h e =
-      let s = drop at t in
-      let k : length (take 8 s) ≡ 8 = length-take-le 8 s (omega (arith, length-drop at t)) in
-      let g : is_digit (get_or (take 8 s) i 0) ≡ false = ap is_digit (get_or-take 8 s i 0 h ∙ get_or-drop at t i 0) ∙ e in
-      sym (rw (long, digits_stop (take 8 s) i (omega arith) g))
+      let k : length (take 8 t) ≡ 8 = length-take-le 8 t (omega arith) in
+      let g : is_digit (get_or (take 8 t) i 0) ≡ false = ap is_digit (get_or-take 8 t i 0 h) ∙ e in
+      sym (rw (long, digits_stop (take 8 t) i (omega arith) g))
 
-  pub word_goes_on : (i : ℕ) → i < 8 → all_digits (take i (drop at t)) ≡ true → is_digit (get_or t (at + i) 0) ≡ true
-      → all_digits (take (i + 1) (drop at t)) ≡ true
+  pub word_goes_on : (i : ℕ) → i < 8 → all_digits (take i t) ≡ true → is_digit (get_or t i 0) ≡ true
+      → all_digits (take (i + 1) t) ≡ true
   unfolding all_digits
   word_goes_on i h a e =
-      let s = drop at t in
-      let k : i < length s = omega (arith, length-drop at t) in
-      let g : is_digit (get_or s i 0) ≡ true = ap is_digit (get_or-drop at t i 0) ∙ e in
-      let one : all_digits (get_or s i 0 ∷ []) ≡ true = rw g in
-      rw (add-one i, take-suc s i 0 k) (digits_both (take i s) (get_or s i 0 ∷ []) a one)
+      let k : i < length t = omega arith in
+      let one : all_digits (get_or t i 0 ∷ []) ≡ true = rw e in
+      rw (add-one i, take-suc t i 0 k) (digits_both (take i t) (get_or t i 0 ∷ []) a one)
 
-  pub word_ends : (i : ℕ) → i ≡ 8 → all_digits (take i (drop at t)) ≡ true → eqb (get_or t (at + 8) 0) m ≡ word_right m (drop at t)
+  pub word_ends : (i : ℕ) → i ≡ 8 → all_digits (take i t) ≡ true → eqb (get_or t 8 0) m ≡ word_right m t
   unfolding word_right
   word_ends i h a =
-      let b : all_digits (take 8 (drop at t)) ≡ true = rw h at a in
-      sym (rw (long, b, get_or-drop at t 8 0))
+      let b : all_digits (take 8 t) ≡ true = rw h at a in
+      sym (rw (long, b))
+
+-- what a slice from a place to the end is
+pub tail_is : (a : ℕ) (t : List ℕ) → take (length t - a) (drop a t) ≡ drop a t
+tail_is a t = take_all (length t - a) (drop a t) (omega (arith, length-drop a t))
 
 -- the words of a line, tested
-module _ (t : List ℕ) (at : ℕ) where
-  next_word : (k : ℕ) → drop 9 (drop (at + 9 * k) t) ≡ drop (at + 9 * (k + 1)) t
-  next_word k = let e : at + 9 * k + 9 ≡ at + 9 * (k + 1) = omega arith in drop-drop 9 (at + 9 * k) t ∙ ap (λ (n : ℕ). drop n t) e
+module _ (t : List ℕ) where
+  next_word : (k : ℕ) → drop 9 (drop (9 * k) t) ≡ drop (9 * (k + 1)) t
+  next_word k = let e : 9 * k + 9 ≡ 9 * (k + 1) = omega arith in drop-drop 9 (9 * k) t ∙ ap (λ (n : ℕ). drop n t) e
 
   abbrev pub right_from : ℕ → Bool
-  right_from k = words_right (6 - k) (drop (at + 9 * k) t)
+  right_from k = words_right (6 - k) (drop (9 * k) t)
 
-  pub right_start : words_right 6 (drop at t) ≡ right_from 0
-  right_start = let e : at + 9 * 0 ≡ at = omega arith in ap (λ (n : ℕ). words_right 6 (drop n t)) (sym e)
-
-  right_more : (k : ℕ) → k < 5 → right_from k ≡ (word_right 32 (drop (at + 9 * k) t) && right_from (k + 1))
+  right_more : (k : ℕ) → k < 5 → right_from k ≡ (word_right 32 (drop (9 * k) t) && right_from (k + 1))
   unfolding words_right mark
   right_more k h =
       let e : 6 - k ≡ suc (suc (4 - k)) = omega arith in
       let f : 6 - (k + 1) ≡ suc (4 - k) = omega arith in
       rw (e, f, next_word k)
 
-  module _ (k : ℕ) (h : k < 5) (all : words_right 6 (drop at t) ≡ right_from k) where
-    pub right_stops : word_right 32 (drop (at + 9 * k) t) ≡ false → false ≡ words_right 6 (drop at t)
+  module _ (k : ℕ) (h : k < 5) (all : words_right 6 t ≡ right_from k) where
+    pub right_stops : word_right 32 (drop (9 * k) t) ≡ false → false ≡ words_right 6 t
     right_stops e = sym (all ∙ right_more k h ∙ rw e)
 
-    pub right_goes_on : word_right 32 (drop (at + 9 * k) t) ≡ true → words_right 6 (drop at t) ≡ right_from (k + 1)
+    pub right_goes_on : word_right 32 (drop (9 * k) t) ≡ true → words_right 6 t ≡ right_from (k + 1)
     right_goes_on e = all ∙ right_more k h ∙ rw e
 
-  pub right_ends : (k : ℕ) → k ≡ 5 → words_right 6 (drop at t) ≡ right_from k → word_right 10 (drop (at + 45) t) ≡ words_right 6 (drop at t)
+  pub right_ends : (k : ℕ) → k ≡ 5 → words_right 6 t ≡ right_from k → word_right 10 (drop 45 t) ≡ words_right 6 t
   unfolding words_right mark
-  right_ends k h all = sym (all ∙ ap right_from h ∙ and_true (word_right 10 (drop (at + 45) t)))
+  right_ends k h all = sym (all ∙ ap right_from h ∙ and_true (word_right 10 (drop 45 t)))
     where
       and_true : (b : Bool) → (b && true) ≡ b
       and_true true = refl
@@ -137,29 +133,29 @@ module _ (t : List ℕ) (at : ℕ) where
 
   -- and those behind the first, whether they are zero
   abbrev pub zero_from : ℕ → Bool
-  zero_from k = all_zero (words (6 - k) (drop (at + 9 * k) t))
+  zero_from k = all_zero (words (6 - k) (drop (9 * k) t))
 
-  zero_more : (k : ℕ) → k < 6 → zero_from k ≡ (eqb (number (take 8 (drop (at + 9 * k) t))) 0 && zero_from (k + 1))
+  zero_more : (k : ℕ) → k < 6 → zero_from k ≡ (eqb (number (take 8 (drop (9 * k) t))) 0 && zero_from (k + 1))
   unfolding words all_zero
   zero_more k h =
       let e : 6 - k ≡ suc (6 - (k + 1)) = omega arith in
       rw (e, next_word k)
 
-  module _ (k n : ℕ) (h : k < 6) (all : all_zero (words 5 (drop (at + 9) t)) ≡ zero_from k) (e : n ≡ number (take 8 (drop (at + 9 * k) t))) where
-    pub zero_stops : (n ≡ 0 → ⊥) → false ≡ all_zero (words 5 (drop (at + 9) t))
+  module _ (k n : ℕ) (h : k < 6) (all : all_zero (words 5 (drop 9 t)) ≡ zero_from k) (e : n ≡ number (take 8 (drop (9 * k) t))) where
+    pub zero_stops : (n ≡ 0 → ⊥) → false ≡ all_zero (words 5 (drop 9 t))
     zero_stops z = sym (all ∙ zero_more k h ∙ rw (← e, ne_eqb n 0 z))
 
-    pub zero_goes_on : n ≡ 0 → all_zero (words 5 (drop (at + 9) t)) ≡ zero_from (k + 1)
+    pub zero_goes_on : n ≡ 0 → all_zero (words 5 (drop 9 t)) ≡ zero_from (k + 1)
     zero_goes_on z = all ∙ zero_more k h ∙ rw (← e, eq-eqb n 0 z)
 
-  pub zero_ends : (k : ℕ) → k ≡ 6 → all_zero (words 5 (drop (at + 9) t)) ≡ zero_from k → true ≡ all_zero (words 5 (drop (at + 9) t))
+  pub zero_ends : (k : ℕ) → k ≡ 6 → all_zero (words 5 (drop 9 t)) ≡ zero_from k → true ≡ all_zero (words 5 (drop 9 t))
   unfolding words all_zero
   zero_ends k h all = sym (all ∙ ap zero_from h)
 
-  pub word_digits : (k : ℕ) → words_right 6 (drop at t) ≡ true → k < 6 → all_digits (take 8 (drop (at + 9 * k) t)) ≡ true
+  pub word_digits : (k : ℕ) → words_right 6 t ≡ true → k < 6 → all_digits (take 8 (drop (9 * k) t)) ≡ true
   word_digits k e h =
-      let p : at + k * 9 ≡ at + 9 * k = omega arith in
-      rw (drop-drop (k * 9) at t, p) at (words_digits 6 k (drop at t) e h)
+      let p : k * 9 ≡ 9 * k = omega arith in
+      rw p at (words_digits 6 k t e h)
 
 -- what a line says, by its tests
 module _ (s : List ℕ) where

@@ -1,5 +1,5 @@
 // Hexadecimal digits and words of eight of them.
-ghost use Rattle.std.specs.Prelude.{◌≡◌, true, ◌+◌, ◌≤◌, ◌<◌, length, take, drop};
+ghost use Rattle.std.specs.Prelude.{◌≡◌, true, ◌+◌, ◌≤◌, ◌<◌, length, take};
 ghost use Rattle.layout.specs.Bytes.{overwrite};
 ghost use Rattle.report.specs.Words.{digit, value, is_digit, all_digits, digits, number};
 
@@ -8,19 +8,11 @@ fn value_of(character: u8) -> u32
     ensures { result ≡ value character }
 {
     let c = u32::from(character);
-    if c < 48 {
-        return 16;
+    match character {
+        b'0'..=b'9' => c - 48,
+        b'a'..=b'f' => c - 87,
+        _ => 16,
     }
-    if c <= 57 {
-        return c - 48;
-    }
-    if c < 97 {
-        return 16;
-    }
-    if c <= 102 {
-        return c - 87;
-    }
-    16
 }
 
 // Whether a character is a digit.
@@ -41,14 +33,14 @@ fn digit_of(value: u32) -> u8
     (87 + value) as u8
 }
 
-// The number of the word at a place.
-pub(crate) fn read_word(text: &[u8], at: usize) -> u32
-    requires { (at + 8 ≤ length text.now) × (all_digits (take 8 (drop at text.now)) ≡ true) }
-    ensures { result ≡ number (take 8 (drop at text.now)) }
+// The number of the word in front.
+pub(crate) fn read_word(text: &[u8]) -> u32
+    requires { (8 ≤ length text.now) × (all_digits (take 8 text.now) ≡ true) }
+    ensures { result ≡ number (take 8 text.now) }
 {
     let mut n: u32 = 0;
     for i in 0..8 {
-        n = n * 16 + value_of(text[at + i]);
+        n = n * 16 + value_of(text[i]);
     }
     n
 }

@@ -26,7 +26,7 @@ pub fn import_grants(text: &[u8]) -> Imported
         if QUOTAS <= i {
             return refused(ReportRefusal::TooMany, number);
         }
-        match read_line(text, LINE_LENGTH * i) {
+        match read_line(&text[LINE_LENGTH * i..]) {
             Ok(grant) => grants[i] = grant,
             Err(refusal) => return refused(refusal, number),
         }

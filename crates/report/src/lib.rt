@@ -44,7 +44,7 @@ pub struct Imported {
 }
 
 impl ReportRefusal {
-    // The refusal's number.
+    // The refusal's number. docs/PROMISES-REPORT.md names it.
     pub fn number(self) -> u32
         ensures { result ≡ report_refusal_number self }
     {

@@ -6,60 +6,59 @@ ghost use Rattle.report.specs.Import.{line_of};
 
 use crate::{LINE_LENGTH, ReportRefusal, digits};
 
-// Whether a word stands at a place, with this character behind it.
-fn is_word(text: &[u8], at: usize, mark: u8) -> bool
-    requires { at + 9 ≤ length text.now }
-    ensures { result ≡ word_right mark (drop at text.now) }
+// Whether a word stands in front, with this character behind it.
+fn is_word(text: &[u8], mark: u8) -> bool
+    requires { 9 ≤ length text.now }
+    ensures { result ≡ word_right mark text.now }
 {
     for i in 0..8 {
-        if !digits::is_digit(text[at + i]) {
+        if !digits::is_digit(text[i]) {
             return false;
         }
     }
-    text[at + 8] == mark
+    text[8] == mark
 }
 
-// Whether every character from a place on is one of a line.
-fn is_line(text: &[u8], at: usize) -> bool
-    requires { at + 54 ≤ length text.now }
-    ensures { result ≡ words_right 6 (drop at text.now) }
+// Whether every character in front is one of a line.
+fn is_line(text: &[u8]) -> bool
+    requires { 54 ≤ length text.now }
+    ensures { result ≡ words_right 6 text.now }
 {
     for k in 0..5 {
-        if !is_word(text, at + 9 * k, 32) {
+        if !is_word(&text[9 * k..], 32) {
             return false;
         }
     }
-    is_word(text, at + 45, 10)
+    is_word(&text[45..], 10)
 }
 
-// Whether the words of the line at a place are zero but the first.
-fn is_rest_zero(text: &[u8], at: usize) -> bool
-    requires { (at + 54 ≤ length text.now) × (words_right 6 (drop at text.now) ≡ true) }
-    ensures { result ≡ all_zero (words 5 (drop (at + 9) text.now)) }
+// Whether the words of the line in front are zero but the first.
+fn is_rest_zero(text: &[u8]) -> bool
+    requires { (54 ≤ length text.now) × (words_right 6 text.now ≡ true) }
+    ensures { result ≡ all_zero (words 5 (drop 9 text.now)) }
 {
     for k in 1..6 {
-        if digits::read_word(text, at + 9 * k) != 0 {
+        if digits::read_word(&text[9 * k..]) != 0 {
             return false;
         }
     }
     true
 }
 
-// What the line at a place says.
-pub(crate) fn read_line(text: &[u8], at: usize) -> Result<u32, ReportRefusal>
-    requires { at ≤ length text.now }
-    ensures { result ≡ line_of (drop at text.now) }
+// What the line in front says.
+pub(crate) fn read_line(text: &[u8]) -> Result<u32, ReportRefusal>
+    ensures { result ≡ line_of text.now }
 {
-    if text.len() - at < LINE_LENGTH {
+    if text.len() < LINE_LENGTH {
         return Err(ReportRefusal::Character);
     }
-    if !is_line(text, at) {
+    if !is_line(text) {
         return Err(ReportRefusal::Character);
     }
-    if !is_rest_zero(text, at) {
+    if !is_rest_zero(text) {
         return Err(ReportRefusal::Reserved);
     }
-    Ok(digits::read_word(text, at))
+    Ok(digits::read_word(text))
 }
 
 // The line of a grant, written at a place.

@@ -5,8 +5,8 @@ use mathlib.Core.List.{List}
 use Rattle.model.specs.Calls.{Outcome}
 use Rattle.model.proofs.Answers.{verdict_values_injective, amount_values_injective, handle_values_injective}
 use Rattle.results.specs.declared.Opened.{Opened}
-use Rattle.results.specs.declared.AmountResult.{AmountResult}
-use Rattle.results.specs.declared.HandleResult.{HandleResult}
+use Rattle.results.specs.Results.{AmountResult}
+use Rattle.results.specs.Results.{HandleResult}
 use Rattle.results.specs.Results.{opened_outcome, amount_outcome, handle_outcome}
 
 pub opened_outcome_injective : (s t : List ℕ) (a b : Opened) → opened_outcome s a ≡ opened_outcome t b → (s ≡ t) × (a ≡ b)

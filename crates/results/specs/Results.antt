@@ -7,8 +7,14 @@ use Rattle.words.specs.Words.{accounts_of}
 use Rattle.model.specs.Answers.{Values, verdict_values, amount_values, handle_values}
 use Rattle.model.specs.Calls.{Outcome}
 use Rattle.results.specs.declared.Opened.{Opened}
-use Rattle.results.specs.declared.AmountResult.{AmountResult}
-use Rattle.results.specs.declared.HandleResult.{HandleResult}
+use Rattle.results.specs.declared.CallResult.{CallResult}
+
+-- what a call gives that answers an amount, and one that answers a handle
+abbrev pub AmountResult : Type 0
+AmountResult = CallResult ℕ
+
+abbrev pub HandleResult : Type 0
+HandleResult = CallResult Handle
 
 abbrev pub outcome : List ℕ → Accounts → Values → Outcome
 outcome s k v = record { heap = s; accounts = k; values = v }
@@ -26,8 +32,11 @@ handle_outcome s r = outcome s r.accounts (handle_values r.answer)
 abbrev pub opened_result : List ℕ → Result (Unit {0}) Refusal → Opened
 opened_result words verdict = record { accounts = accounts_of words; verdict = verdict }
 
+abbrev pub call_result : {T : Type 0} → List ℕ → Result T Refusal → CallResult T
+call_result words answer = record { accounts = accounts_of words; answer = answer }
+
 abbrev pub amount_result : List ℕ → Result ℕ Refusal → AmountResult
-amount_result words answer = record { accounts = accounts_of words; answer = answer }
+amount_result words answer = call_result words answer
 
 abbrev pub handle_result : List ℕ → Result Handle Refusal → HandleResult
-handle_result words answer = record { accounts = accounts_of words; answer = answer }
+handle_result words answer = call_result words answer

@@ -2,7 +2,7 @@
 #![tactic(auto)]
 
 ghost use Rattle.std.specs.Prelude.{◌≡◌};
-ghost use Rattle.results.specs.Results.{amount_result, handle_result};
+ghost use Rattle.results.specs.Results.{call_result};
 
 use accounts::Accounts;
 use model::{Handle, Refusal};
@@ -15,36 +15,25 @@ pub struct Opened {
     pub verdict: Result<(), Refusal>,
 }
 
-// What claim, release, free-all, clear permissions and sweep give.
+// What a call gives that answers a T where it is not refused.
 #[derive(Clone, Copy)]
-pub struct AmountResult {
+pub struct CallResult<T> {
     pub accounts: Accounts,
-    pub answer: Result<u32, Refusal>,
+    pub answer: Result<T, Refusal>,
 }
+
+// What claim, release, free-all, clear permissions and sweep give.
+pub type AmountResult = CallResult<u32>;
 
 // What allocate, allocate array and reallocate give.
-#[derive(Clone, Copy)]
-pub struct HandleResult {
-    pub accounts: Accounts,
-    pub answer: Result<Handle, Refusal>,
-}
+pub type HandleResult = CallResult<Handle>;
 
-impl AmountResult {
+impl<T: Copy> CallResult<T> {
     // A call over words has answered: the accounts that they hold, and the answer.
-    pub fn of(words: &[u32; WORDS], answer: Result<u32, Refusal>) -> AmountResult
-        ensures { result ≡ amount_result words.now answer }
+    pub fn of(words: &[u32; WORDS], answer: Result<T, Refusal>) -> CallResult<T>
+        ensures { result ≡ call_result words.now answer }
     {
         let accounts = words::accounts_of(words);
-        AmountResult { accounts, answer }
-    }
-}
-
-impl HandleResult {
-    // A call over words has answered: the accounts that they hold, and the answer.
-    pub fn of(words: &[u32; WORDS], answer: Result<Handle, Refusal>) -> HandleResult
-        ensures { result ≡ handle_result words.now answer }
-    {
-        let accounts = words::accounts_of(words);
-        HandleResult { accounts, answer }
+        CallResult { accounts, answer }
     }
 }

@@ -48,16 +48,6 @@ unfolding table
 table_is zero = unit_is
 table_is (suc e) = unit_2_is
 
--- which it is by a test of the number
-pub table_first : (e n : ℕ) → e ≡ 0 → table e n ≡ unit n
-unfolding table
-table_first e n h = rw h refl
-
-pub table_second : (e n : ℕ) → (e ≡ 0 → ⊥) → table e n ≡ unit_2 n
-unfolding table
-table_second zero n h = absurd (h refl)
-table_second (suc e) n h = refl
-
 -- up to the end of edition 2's first row both have unit 8
 pub table_short : (e n : ℕ) → n ≤ 4088 → table e n ≡ 8
 unfolding table unit unit_2

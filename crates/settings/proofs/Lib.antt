@@ -10,4 +10,4 @@ pub mod Added
 pub mod Answers
 pub mod Exact
 pub mod Told
-pub mod Nth
+pub mod Folds

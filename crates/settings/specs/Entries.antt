@@ -1,5 +1,5 @@
 -- A store as a run of entries (rules 20.1 to 20.3): what stands at a place, and all entries one behind the other.
-use Rattle.std.specs.Prelude.{ℕ, zero, suc, ◌+◌, ◌*◌, List, [], ◌∷◌, Bool, cond, ◌&&◌, length, take, get_or, leb, eqb}
+use Rattle.std.specs.Prelude.{ℕ, zero, suc, ◌+◌, ◌*◌, List, [], ◌∷◌, Bool, cond, ◌&&◌, length, take, get_or, leb}
 use Rattle.std.specs.Prelude.{Result, Ok, Err, Some, None, Option, slice_get}
 use Rattle.settings.specs.declared.Entry.{Entry}
 use Rattle.settings.specs.declared.SettingsRefusal.{SettingsRefusal}
@@ -68,7 +68,3 @@ entry_told (Err r) = record { refusal = settings_refusal_number r; found = None 
 unfoldable pub nth_of : ℕ → Option (List Entry) → EntryTold
 nth_of n None = record { refusal = 41; found = None }
 nth_of n (Some es) = record { refusal = 0; found = slice_get es n }
-
--- an entry where its number is the one asked for, else what was found before
-unfoldable pub picked : ℕ → Option Entry → ℕ → Entry → Option Entry
-picked n before number e = cond (eqb number n) (Some e) before

@@ -4,3 +4,4 @@ pub mod Entries
 pub mod Find
 pub mod Add
 pub mod Exact
+pub mod Walks

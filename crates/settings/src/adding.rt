@@ -3,7 +3,7 @@ ghost use Rattle.std.specs.Prelude.{◌≡◌, ◌+◌, ◌≤◌, length};
 ghost use Rattle.layout.specs.Bytes.{overwrite};
 ghost use Rattle.settings.specs.Add.{entry_bytes, add_of, added_to, add_told};
 
-use crate::entries::last_version;
+use crate::entries::{last_version, used_bytes};
 use crate::{ENTRY_FRONT, GREATEST_VALUE, SettingsRefusal};
 
 // The bytes of an entry, written at a place.
@@ -29,7 +29,7 @@ pub fn add(
     ensures { added_to store.new result
         ≡ add_told (add_of name version value.now store.old used) }
 {
-    let last = last_version(store, used)?;
+    let last = last_version(used_bytes(store, used)?)?;
     if GREATEST_VALUE < value.len() {
         return Err(SettingsRefusal::ValueLength);
     }

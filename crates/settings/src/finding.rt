@@ -1,9 +1,9 @@
 // The value of a name at a version: where it lies, and the bytes themselves.
-ghost use Rattle.std.specs.Prelude.{◌≡◌};
-ghost use Rattle.settings.specs.Entries.{entries, stored};
+ghost use Rattle.std.specs.Prelude.{◌≡◌, Ok};
+ghost use Rattle.settings.specs.Entries.{entries};
 ghost use Rattle.settings.specs.Find.{later, found_in, chosen, find, located, refusal_of, bytes_of, lies_at};
 
-use crate::entries::read_entry;
+use crate::entries::{used_bytes, walk};
 use crate::{Entry, Place, SettingsRefusal, Span};
 
 // Where the entry's value lies if it answers, else what was found before.
@@ -26,45 +26,18 @@ fn later(before: Option<Span>, entry: Entry, name: u8, version: u16) -> Option<S
 fn find_in(store: &[u8], name: u8, version: u16) -> Result<Option<Span>, SettingsRefusal>
     ensures { result ≡ found_in name version (entries store.now) }
 {
-    let mut found = None;
-    let mut last: u16 = 0;
-    let mut at: usize = 0;
-    while at < store.len() {
-        let Some(entry) = read_entry(store, at, last) else {
-            return Err(SettingsRefusal::Malformed);
-        };
-        found = later(found, entry, name, version);
-        last = entry.version;
-        at = entry.end;
-    }
-    Ok(found)
-}
-
-// The same of a store's used bytes.
-fn find_used(
-    store: &[u8],
-    used: usize,
-    name: u8,
-    version: u16,
-) -> Result<Option<Span>, SettingsRefusal>
-    ensures { result ≡ found_in name version (stored store.now used) }
-{
-    if store.len() < used {
-        return Err(SettingsRefusal::Malformed);
-    }
-    find_in(&store[..used], name, version)
+    walk(
+        store,
+        None,
+        |found, entry| later(found, entry, name, version),
+    )
 }
 
 // The board's value, else the default.
 #[tactic(auto, unfolding(crate::specs::Find::chosen))]
-fn chosen(
-    board: Result<Option<Span>, SettingsRefusal>,
-    default: Result<Option<Span>, SettingsRefusal>,
-) -> Result<Place, SettingsRefusal>
-    ensures { result ≡ chosen board default }
+fn chosen(own: Option<Span>, other: Option<Span>) -> Result<Place, SettingsRefusal>
+    ensures { result ≡ chosen (Ok own) (Ok other) }
 {
-    let own = board?;
-    let other = default?;
     own.map(Place::Board)
         .or(other.map(Place::Default))
         .ok_or(SettingsRefusal::Missing)
@@ -82,13 +55,14 @@ pub fn find(
     ensures { located result
         ≡ located (find name version board.now board_used defaults.now defaults_used) }
 {
-    let own = find_used(board, board_used, name, version);
-    let other = find_used(defaults, defaults_used, name, version);
+    let own = find_in(used_bytes(board, board_used)?, name, version)?;
+    let other = find_in(used_bytes(defaults, defaults_used)?, name, version)?;
     chosen(own, other)
 }
 
-// The value of a name at a version, as the bytes where they lie; an empty part of the board's store where it is refused. The refusal's number, 0
-// where there is none, is left in `refusal`.
+// The value of a name at a version, as the bytes where they lie; an empty part of the board's store where it is refused.
+// The refusal's number, 0 where there is none, is left in `refusal`.
+// A number beside the part: clause `lies` says where the part of a refused lookup lies, which no Err would.
 pub fn lookup<'a>(
     board: &'a [u8],
     board_used: usize,

@@ -52,7 +52,7 @@ pub enum Place {
 }
 
 impl SettingsRefusal {
-    // The refusal's number.
+    // The refusal's number. docs/PROMISES-SETTINGS.md names it.
     pub fn number(self) -> u32
         ensures { result ≡ settings_refusal_number self }
     {

@@ -1,8 +1,8 @@
 -- The tally of the blocks that a walk meets, joined from the tally of each block: from where a walk stands, the tally so far and that of the blocks to come
 -- make the whole.
-use Rattle.std.specs.Prelude.{Some, None}
+use Rattle.std.specs.Prelude.{Some, None, max}
 use Prim.Native.Nat.{ℕ, zero, suc, ◌+◌, ◌≤◌}
-use native.Mathlib.Nat.{zero-add, add-zero}
+use native.Mathlib.Nat.{zero-add, add-zero, max-eq_left, max-eq_right}
 use native.Mathlib.Omega.{arith}
 use mathlib.Core.Path.{◌≡◌, refl, ap, sym, ◌∙◌}
 use mathlib.Core.List.{List, [], ◌∷◌}
@@ -17,7 +17,7 @@ use Rattle.lookup.proofs.Walk.{met_known}
 use Rattle.survey.specs.Shares.{one_if, how_many}
 use Rattle.statistics.specs.declared.BlockCount.{BlockCount}
 use Rattle.statistics.specs.declared.tallying.Tally.{Tally}
-use Rattle.statistics.specs.Statistics.{if_so, higher, most}
+use Rattle.statistics.specs.Statistics.{if_so, higher, most, no_blocks}
 use Rattle.statistics.specs.Tallies.{free_met, waiting_met, count_met, tally_of, single, joined, Small, Within}
 
 -- the higher of two numbers
@@ -40,6 +40,10 @@ higher_cases {P} a b f g = go (leb a b) refl
     go true e = f (leb-true a b e)
     go false e = let l = leb-false a b e in g (omega arith)
 
+-- which the library's method gives
+pub max_is : (a b : ℕ) → max a b ≡ higher a b
+max_is a b = higher_cases a b (λ l. max-eq_right l ∙ sym (higher_right a b l)) (λ l. max-eq_left l ∙ sym (higher_left a b l))
+
 pub higher_assoc : (a b c : ℕ) → higher a (higher b c) ≡ higher (higher a b) c
 higher_assoc a b c =
     higher_cases a b
@@ -51,6 +55,27 @@ higher_assoc a b c =
     higher_cases b c
     (λ m. rw (higher_right b c m, higher_left a b l))
     (λ m. rw (higher_left b c m, higher_left a b l, higher_left a c (omega arith))))
+
+-- a tally whose numbers are all 0 is that of no block
+abbrev pub Zeros : BlockCount → Type 0
+Zeros b = (b.blocks ≡ 0) × (b.bytes ≡ 0)
+
+pub zero_count : (b : BlockCount) → Zeros b → b ≡ no_blocks
+zero_count b z = λ i. record { blocks = z.0 i; bytes = z.1 i }
+
+pub zero_tally : (t : Tally) → Zeros t.free × (Zeros t.live × (Zeros t.quarantined × ((t.largest ≡ 0) × ((t.room_8 ≡ 0) × ((t.room_16 ≡ 0)
+    × ((t.room_32 ≡ 0) × (t.room_64 ≡ 0))))))) → t ≡ tally_of []
+unfolding tally_of count_met how_many total most
+zero_tally t (f, (l, (q, (largest, (r8, (r16, (r32, r64))))))) = λ i. record {
+  free = zero_count t.free f i;
+  live = zero_count t.live l i;
+  quarantined = zero_count t.quarantined q i;
+  largest = largest i;
+  room_8 = r8 i;
+  room_16 = r16 i;
+  room_32 = r32 i;
+  room_64 = r64 i;
+}
 
 -- one block in front of others
 pub tally_cons : (m : Met) (ms : List Met) → tally_of (m ∷ ms) ≡ joined (single m) (tally_of ms)

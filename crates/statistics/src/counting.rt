@@ -12,10 +12,7 @@ fn used_at(words: &[u32; WORDS], at: usize) -> usize
     ensures { result ≡ one_if (used (hold_at at (accounts_of words.now))) }
 {
     let hold = words::hold_at(words, at);
-    if hold.is_used() {
-        return 1;
-    }
-    0
+    usize::from(hold.is_used())
 }
 
 // Rule 25.8: how many records are used.

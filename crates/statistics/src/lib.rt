@@ -6,7 +6,8 @@ ghost use Rattle.std.specs.Prelude.{◌≡◌, ◌<◌};
 ghost use Rattle.accounts.specs.Accounts.{QUOTAS};
 ghost use Rattle.rounding.specs.Rounding.{table};
 ghost use Rattle.words.specs.Words.{grant_in, edition_of, accounts_of};
-ghost use Rattle.statistics.specs.Statistics.{heap_statistics, quota_statistics, no_blocks, no_statistics, no_quota_statistics};
+ghost use Rattle.statistics.specs.Statistics.{heap_statistics, quota_statistics, no_statistics, no_quota_statistics};
+ghost use Rattle.model.specs.Answers.{refusal_number};
 
 use accounts::QUOTAS;
 use model::Refusal;
@@ -22,17 +23,18 @@ use tallying::walk;
 
 // Some blocks: how many, and their bytes with the headers, 8 for each block.
 #[repr(C)]
-#[derive(Clone, Copy)]
+#[derive(Clone, Copy, Default)]
 pub struct BlockCount {
     pub blocks: usize,
     pub bytes: usize,
 }
 
-// The statistics of a heap: the refusal's number, 0 where there is none; the last serial given; the hold records that are
-// used; the free, live and quarantined blocks; the bytes of the largest free block, and those of all other free blocks;
-// and the greatest length in each unit that an allocation could get now if quota, records and serials allowed it.
+// The statistics of a heap: the refusal's number, 0 where there is none, since C gets this struct; the last serial given; the
+// hold records that are used; the free, live and quarantined blocks; the bytes of the largest free block, and those of all
+// other free blocks; and the greatest length in each unit that an allocation could get now if quota, records and serials
+// allowed it.
 #[repr(C)]
-#[derive(Clone, Copy)]
+#[derive(Clone, Copy, Default)]
 pub struct Statistics {
     pub refusal: u32,
     pub last_serial: u32,
@@ -48,10 +50,10 @@ pub struct Statistics {
     pub largest_64: usize,
 }
 
-// The statistics of a quota: the refusal's number, what was granted and what remains, the objects that it holds, and
-// those of them that another quota holds too.
+// The statistics of a quota: the refusal's number, since C gets this struct, what was granted and what remains, the objects
+// that it holds, and those of them that another quota holds too.
 #[repr(C)]
-#[derive(Clone, Copy)]
+#[derive(Clone, Copy, Default)]
 pub struct QuotaStatistics {
     pub refusal: u32,
     pub grant: u32,
@@ -60,46 +62,23 @@ pub struct QuotaStatistics {
     pub shared: usize,
 }
 
-// No blocks.
-fn no_blocks() -> BlockCount
-    ensures { result ≡ no_blocks }
-{
-    BlockCount {
-        blocks: 0,
-        bytes: 0,
-    }
-}
-
 // What is refused: zeros beside the refusal's number.
-fn no_statistics(refusal: u32) -> Statistics
-    ensures { result ≡ no_statistics refusal }
+fn no_statistics(refusal: Refusal) -> Statistics
+    ensures { result ≡ no_statistics (refusal_number refusal) }
 {
-    let none = no_blocks();
     Statistics {
-        refusal: refusal,
-        last_serial: 0,
-        records: 0,
-        free: none,
-        live: none,
-        quarantined: none,
-        largest_free: 0,
-        fragmented: 0,
-        largest_8: 0,
-        largest_16: 0,
-        largest_32: 0,
-        largest_64: 0,
+        refusal: refusal.number(),
+        ..Statistics::default()
     }
 }
 
-fn no_quota_statistics(refusal: u32) -> QuotaStatistics
-    ensures { result ≡ no_quota_statistics refusal }
+// The same of a quota.
+fn no_quota_statistics(refusal: Refusal) -> QuotaStatistics
+    ensures { result ≡ no_quota_statistics (refusal_number refusal) }
 {
     QuotaStatistics {
-        refusal: refusal,
-        grant: 0,
-        remaining: 0,
-        objects: 0,
-        shared: 0,
+        refusal: refusal.number(),
+        ..QuotaStatistics::default()
     }
 }
 
@@ -116,7 +95,7 @@ pub fn heap_statistics(heap: &[u8], words: &[u32; WORDS]) -> Statistics
     ensures { result ≡ heap_statistics (table (edition_of words.now)) heap.now (accounts_of words.now) }
 {
     if let Err(refusal) = queries::check(heap, words) {
-        return no_statistics(refusal.number());
+        return no_statistics(refusal);
     }
     let tally = walk(heap);
     let units = most_units(words::edition(words));
@@ -145,10 +124,10 @@ pub fn quota_statistics(heap: &[u8], words: &[u32; WORDS], quota: u32) -> QuotaS
     ensures { result ≡ quota_statistics (table (edition_of words.now)) heap.now (accounts_of words.now) quota }
 {
     if let Err(refusal) = queries::check(heap, words) {
-        return no_quota_statistics(refusal.number());
+        return no_quota_statistics(refusal);
     }
     if QUOTAS <= quota as usize {
-        return no_quota_statistics(Refusal::QuotaNumber.number());
+        return no_quota_statistics(Refusal::QuotaNumber);
     }
     let held = survey::held_by(words, quota);
     QuotaStatistics {

@@ -2,7 +2,7 @@
 ghost use Rattle.std.specs.Prelude.{◌≡◌, ◌*◌, ◌<◌, ◌≤◌, not, ◌&&◌, leb, eqb};
 ghost use Rattle.statistics.specs.Tallies.{most_units, units_in, reach};
 
-// How many of its units an object has at most, by the edition.
+// How many of its units an object has at most, by the edition, a number since C lends any byte as one.
 pub(crate) fn most_units(edition: u8) -> usize
     ensures { (result ≡ most_units edition) × (result ≤ 1023) }
 {
@@ -17,11 +17,7 @@ fn units_in(room: usize, unit: usize, units: usize) -> usize
     requires { 0 < unit }
     ensures { (result ≡ units_in room unit units) × (result ≤ units) }
 {
-    let count = room / unit;
-    if count <= units {
-        return count;
-    }
-    units
+    (room / unit).min(units)
 }
 
 // Whether these are too few: an object whose unit is not 8 has more than half as many units as it may have.

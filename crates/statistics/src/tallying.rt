@@ -1,15 +1,14 @@
 // The walk over the blocks that tallies them: each is tallied alone, and its tally joins that of the blocks before it.
-ghost use Rattle.std.specs.Prelude.{◌≡◌, ◌+◌, ◌^◌, ◌<◌, ◌≤◌, not, ◌&&◌, eqb, [], length};
-ghost use Rattle.layout.specs.Blocks.{QUARANTINED, greatest_heap};
+ghost use Rattle.std.specs.Prelude.{◌≡◌, ◌+◌, ◌^◌, ◌<◌, ◌≤◌, length};
+ghost use Rattle.layout.specs.Blocks.{greatest_heap};
 ghost use Rattle.lookup.specs.Walk.{met};
-ghost use Rattle.statistics.specs.Statistics.{if_so, higher};
-ghost use Rattle.statistics.specs.Tallies.{room_in, one_block, both_counts, single, joined, tally_of, Small, Within};
+ghost use Rattle.statistics.specs.Tallies.{room_in, both_counts, single, joined, tally_of, Small, Within};
 
 use crate::BlockCount;
 use layout::QUARANTINED;
 
 // The free, live and quarantined blocks, the bytes of the largest free block, and the greatest room from a multiple of each unit on.
-#[derive(Clone, Copy)]
+#[derive(Clone, Copy, Default)]
 pub(crate) struct Tally {
     pub free: BlockCount,
     pub live: BlockCount,
@@ -19,22 +18,6 @@ pub(crate) struct Tally {
     pub room_16: usize,
     pub room_32: usize,
     pub room_64: usize,
-}
-
-// A block of this size, if it counts.
-fn one_block(counts: bool, size: usize) -> BlockCount
-    ensures { result ≡ one_block counts size }
-{
-    if counts {
-        return BlockCount {
-            blocks: 1,
-            bytes: size,
-        };
-    }
-    BlockCount {
-        blocks: 0,
-        bytes: 0,
-    }
 }
 
 // The blocks of both.
@@ -48,50 +31,13 @@ fn both_counts(a: BlockCount, b: BlockCount) -> BlockCount
     }
 }
 
-// The higher number.
-fn higher(a: usize, b: usize) -> usize
-    ensures { result ≡ higher a b }
-{
-    if a <= b {
-        return b;
-    }
-    a
-}
-
-// A number, if it counts.
-fn if_so(counts: bool, number: usize) -> usize
-    ensures { result ≡ if_so counts number }
-{
-    if counts {
-        return number;
-    }
-    0
-}
-
-// Whether a block with this serial is an object's.
-fn is_live(serial: u32) -> bool
-    ensures { result ≡ (not (eqb serial 0) && not (eqb serial QUARANTINED)) }
-{
-    if serial == 0 {
-        return false;
-    }
-    serial != QUARANTINED
-}
-
 // The bytes of a free block from the lowest multiple of the unit behind its header on.
-fn room_in(at: usize, size: usize, serial: u32, unit: usize) -> usize
+fn room_in(at: usize, size: usize, unit: usize) -> usize
     requires { (0 < unit) × (unit ≤ 64) × (at + size < 2 ^ 63) }
-    ensures { result ≡ room_in unit (record { at = at; size = size; back = 0; serial = serial }) }
+    ensures { result ≡ room_in unit (record { at = at; size = size; back = 0; serial = 0 }) }
 {
-    if serial != 0 {
-        return 0;
-    }
     let base = (at + 8 + (unit - 1)) / unit * unit;
-    let end = at + size;
-    if end < base {
-        return 0;
-    }
-    end - base
+    (at + size).saturating_sub(base)
 }
 
 // The tally of one block.
@@ -99,18 +45,28 @@ fn single(at: usize, size: usize, serial: u32) -> Tally
     requires { at + size < 2 ^ 63 }
     ensures { result ≡ single (record { at = at; size = size; back = 0; serial = serial }) }
 {
-    let free = one_block(serial == 0, size);
-    let live = one_block(is_live(serial), size);
-    let quarantined = one_block(serial == QUARANTINED, size);
-    Tally {
-        free: free,
-        live: live,
-        quarantined: quarantined,
-        largest: if_so(serial == 0, size),
-        room_8: room_in(at, size, serial, 8),
-        room_16: room_in(at, size, serial, 16),
-        room_32: room_in(at, size, serial, 32),
-        room_64: room_in(at, size, serial, 64),
+    let block = BlockCount {
+        blocks: 1,
+        bytes: size,
+    };
+    match serial {
+        0 => Tally {
+            free: block,
+            largest: size,
+            room_8: room_in(at, size, 8),
+            room_16: room_in(at, size, 16),
+            room_32: room_in(at, size, 32),
+            room_64: room_in(at, size, 64),
+            ..Tally::default()
+        },
+        QUARANTINED => Tally {
+            quarantined: block,
+            ..Tally::default()
+        },
+        _ => Tally {
+            live: block,
+            ..Tally::default()
+        },
     }
 }
 
@@ -126,28 +82,11 @@ fn joined(a: Tally, b: Tally) -> Tally
         free: free,
         live: live,
         quarantined: quarantined,
-        largest: higher(a.largest, b.largest),
-        room_8: higher(a.room_8, b.room_8),
-        room_16: higher(a.room_16, b.room_16),
-        room_32: higher(a.room_32, b.room_32),
-        room_64: higher(a.room_64, b.room_64),
-    }
-}
-
-// No block.
-fn empty() -> Tally
-    ensures { result ≡ tally_of [] }
-{
-    let none = crate::no_blocks();
-    Tally {
-        free: none,
-        live: none,
-        quarantined: none,
-        largest: 0,
-        room_8: 0,
-        room_16: 0,
-        room_32: 0,
-        room_64: 0,
+        largest: a.largest.max(b.largest),
+        room_8: a.room_8.max(b.room_8),
+        room_16: a.room_16.max(b.room_16),
+        room_32: a.room_32.max(b.room_32),
+        room_64: a.room_64.max(b.room_64),
     }
 }
 
@@ -156,7 +95,7 @@ pub(crate) fn walk(heap: &[u8]) -> Tally
     requires { length heap.now ≤ greatest_heap }
     ensures { result ≡ tally_of (met heap.now) }
 {
-    let mut tally = empty();
+    let mut tally = Tally::default();
     let mut at: usize = 0;
     loop {
         let Some(header) = layout::start_at(heap, at) else {

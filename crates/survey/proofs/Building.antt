@@ -1,6 +1,5 @@
--- The index as it is built, from place 0 up: a record without a serial needs no place in it; a used one is alone in its slot, or hung into the tree of the
--- record
--- that was there.
+-- The index as it is built, from place 0 up: a record without a serial needs no place in it; a used one is alone in its
+-- slot, or hung into the tree of the record that was there.
 use Rattle.std.proofs.Common.{◌≡◌, ℕ, ◌+◌, ◌-◌, ◌%◌, ◌<◌, ◌≤◌, List, length, get_or, set, replicate, sym, ap, ◌∙◌, subst, inl, inr, ⊎_elim, arith, length-set}
 use Rattle.std.proofs.Common.{get_or-set_other, get_or-set_same}
 use lib.ListN.{get_or-replicate, length-replicate}

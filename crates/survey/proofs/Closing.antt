@@ -1,4 +1,5 @@
--- The keys of the open records: a record is closed by its slot where it is alone, or by the flag in its first link, and its key is struck then.
+-- The keys of the open records: a record is closed by its slot where it is alone, or by the flag in its first link, and
+-- its key is struck then.
 use Rattle.std.proofs.Common.{◌≡◌, ℕ, suc, ◌+◌, ◌-◌, ◌<◌, ◌≤◌, true, false, cond, ◌&&◌, eqb, ltb, leb, List, length, get_or, set, sym, refl, ap, ◌∙◌, subst}
 use Rattle.std.proofs.Common.{true≢false, arith, length-set, get_or-set_other, get_or-set_same, ext_get_or, le-ltb, lt-ltb, eq-eqb, ne_eqb, eqb-true, le-leb}
 use borrow.Author.Tests.{lt-leb}

@@ -1,4 +1,5 @@
--- What the quotas owe, told by one loop that no quota ends: the quotas before a place are valid if none was short and no bit above a permission's was met.
+-- What the quotas owe, told by one loop that no quota ends: the quotas before a place are valid if none was short and
+-- no bit above a permission's was met.
 use Rattle.std.proofs.Common.{◌≡◌, ℕ, suc, ◌+◌, ◌<◌, ◌≤◌, Bool, true, false, cond, ◌&&◌, eqb, ltb, leb, List, map, length, get_or, drop, set, sym, refl, ap}
 use Rattle.std.proofs.Common.{◌∙◌, subst, arith, length-set, drop_of_length-le, drop-cons, ltb-false, ltb-true, le-leb, leb-true}
 use mathlib.Core.Bool.{and-true}

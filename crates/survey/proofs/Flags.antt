@@ -1,12 +1,13 @@
--- The flags of the live blocks. In well-formed records every quota is below QUOTAS, so a record of another quota than QUOTAS is any record of its serial. The
--- walk puts one flag for each live block that it meets, until no block starts or every flag is put.
-use Rattle.std.proofs.Common.{◌≡◌, ℕ, zero, suc, ◌+◌, ◌*◌, ◌<◌, ◌≤◌, Bool, true, false, cond, not, ◌&&◌, eqb, ltb, List, [], ◌∷◌, map, length, get_or, set, sym}
-use Rattle.std.proofs.Common.{refl, ap, ◌∙◌, arith, length-set, get_or-set_other, ne_eqb}
+-- The flags of the live blocks. The walk puts one flag for each live block that it meets, until no block starts or
+-- every flag is put.
+use Rattle.std.proofs.Common.{◌≡◌, ℕ, zero, suc, ◌+◌, ◌*◌, ◌<◌, ◌≤◌, Bool, true, false, cond, ◌&&◌, List, [], ◌∷◌, map, length, get_or, set, sym}
+use Rattle.std.proofs.Common.{refl, ap, ◌∙◌, arith, length-set, get_or-set_other}
 use lib.Seq.{set_out}
+use mathlib.Core.Bool.{and-true}
 use Rattle.std.proofs.Common.{Option, Some, None, MatchOption, is_some}
 use Rattle.accounts.specs.declared.Hold.{Hold}
 use Rattle.accounts.specs.declared.Accounts.{Accounts}
-use Rattle.accounts.specs.Accounts.{QUOTAS, HOLDS, zero_hold, used, record_of, dropped, drop_records, first_from}
+use Rattle.accounts.specs.Accounts.{HOLDS, zero_hold, used, record_of, dropped, drop_records, first_from}
 use Rattle.layout.specs.Blocks.{start_at}
 use Rattle.layout.specs.declared.Header.{Header}
 use Rattle.layout.proofs.Starts.{start_found}
@@ -14,43 +15,23 @@ use Rattle.lists.specs.Lists.{all, any, keep}
 use Rattle.model.specs.Objects.{blocks_of}
 use Rattle.model.specs.Consistent.{is_of, held, accounted}
 use Rattle.lists.proofs.Bools.{and_left, and_right, and_both}
-use Rattle.model.proofs.Consistent.{tests_exactly, accounted_cut, is_of_exactly}
+use Rattle.model.proofs.Consistent.{tests_exactly, accounted_cut}
 use Rattle.lookup.specs.declared.Met.{Met}
 use Rattle.lookup.specs.Walk.{met_from, met, live_met}
 use Rattle.lookup.proofs.Walk.{met_nothing, met_block}
 use Rattle.audit.specs.Keys.{well_formed}
-use Rattle.audit.proofs.Records.{well_used}
 use Rattle.audit.proofs.Consistency.{tests_well}
 use Rattle.words.specs.Words.{holds_of}
-use Rattle.survey.specs.declared.indexing.Tally.{Tally}
-use Rattle.survey.specs.Survey.{place_of, shares}
 use Rattle.survey.specs.Clauses.{sought, Index}
 use Rattle.survey.specs.Holders.{counts_held, held_flags, put_flags, Indexed}
-use Rattle.survey.proofs.Surveys.{place_any}
+use Rattle.survey.proofs.Surveys.{known_any}
 
 -- the index, by what was told of it
-pub told_indexed : (words heads links : List ℕ) (t : Option Tally)
-    → MatchOption t (all well_formed (holds_of words) ≡ false) (λ x. Index words heads links x.low x.used)
+pub told_indexed : (words heads links : List ℕ) (used : ℕ) (t : Option ℕ)
+    → MatchOption t (all well_formed (holds_of words) ≡ false) (λ low. Index words heads links low used)
     → Indexed words (is_some t) heads links
-told_indexed words heads links (Some x) t = (t.built, t.well)
-told_indexed words heads links None t = t
-
--- a record of a serial is one of another quota than QUOTAS
-shares_any : (n : ℕ) (h : Hold) → well_formed h ≡ true → shares n QUOTAS h ≡ is_of n h
-unfolding shares
-shares_any n h w = go (is_of n h) refl
-  where
-    go : (x : Bool) → is_of n h ≡ x → (x && not (eqb h.quota QUOTAS)) ≡ x
-    go true e =
-        let u = well_used h w ((is_of_exactly n h).0 e).0 in
-        rw (ne_eqb h.quota QUOTAS (λ z. omega (arith, u.1, z)))
-    go false e = refl
-
-held_any : (n : ℕ) (hs : List Hold) → all well_formed hs ≡ true → any (shares n QUOTAS) hs ≡ held hs n
-unfolding held any all
-held_any n [] w = refl
-held_any n (h ∷ hs) w =
-    rw (shares_any n h (and_left (well_formed h) (all well_formed hs) w), held_any n hs (and_right (well_formed h) (all well_formed hs) w))
+told_indexed words heads links used (Some x) t = (t.built, t.well)
+told_indexed words heads links used None t = t
 
 -- what counts as held: all, or what a search along the path finds
 pub held_ill : (hs : List Hold) (n : ℕ) → all well_formed hs ≡ false → true ≡ counts_held hs n
@@ -61,9 +42,10 @@ pub held_well : (hs : List Hold) (n : ℕ) → all well_formed hs ≡ true → c
 unfolding counts_held
 held_well hs n e = rw e
 
-pub held_found : (hs : List Hold) (n r : ℕ) → all well_formed hs ≡ true → place_of r ≡ first_from (sought false n QUOTAS) 0 hs → ltb r HOLDS ≡ counts_held hs n
-unfolding sought
-held_found hs n r w e = place_any (shares n QUOTAS) hs r e ∙ held_any n hs w ∙ sym (held_well hs n w)
+pub held_found : (hs : List Hold) (n : ℕ) (r : Option ℕ) → all well_formed hs ≡ true → r ≡ first_from (sought (λ q. true) n) 0 hs → is_some r ≡ counts_held hs n
+unfolding sought held
+held_found hs n r w e =
+    known_any (λ (h : Hold). is_of n h && true) hs r e ∙ ap (λ (p : Hold → Bool). any p hs) (λ i h. and-true (is_of n h) i) ∙ sym (held_well hs n w)
 
 -- past the end nothing is put, and the places before i stay
 pub put_out : (i : ℕ) (xs table : List Bool) → length table ≤ i → put_flags i xs table ≡ table

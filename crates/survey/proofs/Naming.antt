@@ -1,8 +1,7 @@
 -- The object that a handle names is that of the block before the edge, or of none.
 use Rattle.std.specs.Prelude.{Some, None}
-use Rattle.std.proofs.Common.{◌≡◌, ℕ, ◌+◌, ◌-◌, ◌*◌, ◌<◌, ◌≤◌, Bool, true, false, cond, eqb, ltb, leb, List, length, sym, ap, ◌∙◌, inl, inr, arith, ltb-false}
+use Rattle.std.proofs.Common.{◌≡◌, ℕ, ◌+◌, ◌-◌, ◌*◌, ◌<◌, ◌≤◌, Bool, false, cond, eqb, ltb, leb, List, length, sym, ap, ◌∙◌, inl, inr, arith, ltb-false}
 use Rattle.std.proofs.Common.{ltb-true, eq-eqb, ne_eqb, le-leb, leb-false, leb-true}
-use mathlib.Core.Bool.{false≢true}
 use borrow.Author.Tests.{lt-leb}
 use Rattle.layout.specs.Blocks.{QUARANTINED, greatest_heap}
 use Rattle.model.specs.Objects.{names}
@@ -59,11 +58,11 @@ module _ (h : Handle) (s : List ℕ) where
   module _ (edge at back before : ℕ) (is : edge ≡ edge_of h.base (length s)) {found : Bool}
       (named : found ≡ holds_named h (record { at = at - 8 * back; size = 8 * back; back = 0; serial = before })) where
     abbrev Answer : Type 0
-    Answer = (block_of found (at - 8 * back) s ≡ find_object h s) × (found ≡ true → 8 * back ≡ (block_at (at - 8 * back) s).size)
+    Answer = block_of found (at - 8 * back) s ≡ find_object h s
 
     none : found ≡ false → find_object h s ≡ None → Answer
     unfolding block_of
-    none e m = (rw e (sym m), λ t. absurd (false≢true (sym e ∙ t)))
+    none e m = rw e (sym m)
 
     -- the block before the edge
     one : 8 < edge → length s < at + edge → Last s edge at back before → Answer
@@ -79,10 +78,8 @@ module _ (h : Handle) (s : List ℕ) where
         let all : find_object h s ≡ cond (holds_named h m) (Some m) None = here ∙ ap (named_met h) w.there in
         let same : found ≡ holds_named h m = named ∙ (λ i. holds_named h
         (record { at = x i; size = 8 * sym w.size i; back = 0; serial = sym w.serial i })) in
-        let it : block_at (at - 8 * back) s ≡ m = ap (λ (y : ℕ). block_at y s) x ∙ met_block_at w.start s m w.there in (
-          (λ i. cond (same i) (Some (it i)) None) ∙ sym all,
-          λ t. ap (λ (y : ℕ). 8 * y) (sym w.size) ∙ ap (λ (y : Met). y.size) (sym it),
-        )
+        let it : block_at (at - 8 * back) s ≡ m = ap (λ (y : ℕ). block_at y s) x ∙ met_block_at w.start s m w.there in
+        (λ i. cond (same i) (Some (it i)) None) ∙ sym all
 
     pub named_half : 64 ≤ length s → Halved edge s at back before → Answer
     named_half l (inl (e, z, b)) = none (named ∙ behind h _ (omega (arith, z, b))) (edge_none (sym is ∙ e))

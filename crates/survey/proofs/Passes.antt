@@ -1,4 +1,5 @@
--- The pass over the records: on the way, those before place i are well-formed and in the index; behind `top` all are blank.
+-- The pass over the records: on the way, those before place i are well-formed and in the index; behind `top` all are
+-- blank.
 use Rattle.std.proofs.Common.{◌≡◌, ℕ, suc, ◌+◌, ◌-◌, ◌<◌, ◌≤◌, true, min, ltb, List, get_or, sym, refl, ap, ◌∙◌, subst, inl, inr, arith, ltb-false, ltb-true}
 use lib.ListN.{get_or-map}
 use Rattle.lists.proofs.Bools.{by_test, by_eq}

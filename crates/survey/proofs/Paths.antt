@@ -1,5 +1,6 @@
--- Paths through the index: links go up, and a search along a serial's path finds what a search place by place finds, since the path leads to every place that
--- has the serial. A record that is hung into an empty link is at the end of its path, and every other path stays.
+-- Paths through the index: links go up, and a search along a serial's path finds what a search place by place finds,
+-- since the path leads to every place that has the serial. A record that is hung into an empty link is at the end of
+-- its path, and every other path stays.
 use Rattle.std.proofs.Common.{◌≡◌, ℕ, ◌+◌, ◌*◌, ◌/◌, ◌%◌, ◌<◌, ◌≤◌, true, false, ltb, ◌⊎◌, List, get_or, set, sym, refl, ap, ◌∙◌, subst, inl, inr, true≢false}
 use Rattle.std.proofs.Common.{arith, length-set, get_or-set_other, get_or-set_same, ltb-false, ltb-true}
 use Rattle.lists.proofs.Bools.{by_test, by_eq}

@@ -30,7 +30,8 @@ pub reaches_on : {s : List ℕ} {at : ℕ} → Reaches s at → (h : Header) →
 reaches_on {s} {at} r h e p f =
     searched (search_passed p s at (searching (r p (λ m l. f m (omega arith)))) (headed at h) e (f (headed at h) (omega arith)))
 
--- a block that is not free, one that is too small for what is sought, and one where the gap in front of the base decides
+-- a block that is not free, one that is too small for what is sought, and one where the gap in front of the base
+-- decides
 pub room_occupied : (a n : ℕ) (m : Met) → (m.serial ≡ 0 → ⊥) → has_room a n m ≡ false
 unfolding has_room
 room_occupied a n m d = rw (ne_eqb m.serial 0 d)

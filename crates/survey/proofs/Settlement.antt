@@ -1,6 +1,6 @@
--- The settlement of one serial. Along its path: at each open record of the serial the key is struck and its quota pays; what a link leaps over is of other
--- serials.
--- So at the path's end all keys of the serial are struck and paid for. Where the serial's slot has one record, that one is all.
+-- The settlement of one serial. Along its path: at each open record of the serial the key is struck and its quota pays;
+-- what a link leaps over is of other serials. So at the path's end all keys of the serial are struck and paid for.
+-- Where the serial's slot has one record, that one is all.
 use Rattle.std.specs.Prelude.{Option, Some, None}
 use Rattle.std.proofs.Common.{◌≡◌, ℕ, suc, ◌-◌, ◌/◌, ◌<◌, ◌≤◌, true, false, List, length, get_or, drop, set, sym, refl, ap, ◌∙◌, subst, inl, inr, arith}
 use Rattle.std.proofs.Common.{length-set, get_or-set_other, get_or-set_same, drop-set-lt}

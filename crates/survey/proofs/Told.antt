@@ -1,9 +1,8 @@
 -- What a survey that accepts tells of the object, the records and the room.
-use Rattle.std.specs.Prelude.{Option, Some, None, Ok}
-use Rattle.std.proofs.Common.{◌≡◌, ℕ, ◌+◌, ◌-◌, ◌*◌, ◌/◌, ◌<◌, ◌≤◌, true, false, ◌&&◌, eqb, leb, List, length, sym, refl, ap, ◌∙◌, arith, le-ltb, lt-ltb}
+use Rattle.std.specs.Prelude.{Option, Some, None}
+use Rattle.std.proofs.Common.{◌≡◌, ℕ, ◌+◌, ◌-◌, ◌*◌, ◌/◌, ◌<◌, ◌≤◌, ◌&&◌, eqb, leb, List, length, sym, refl, ap, ◌∙◌, arith, le-ltb, lt-ltb}
 use Rattle.std.proofs.Common.{eqb-true}
-use Rattle.accounts.specs.declared.Accounts.{Accounts}
-use Rattle.accounts.specs.Accounts.{HOLDS, find_hold}
+use Rattle.accounts.specs.Accounts.{HOLDS}
 use Rattle.lookup.specs.declared.Met.{Met}
 use Rattle.lookup.specs.Walk.{met, live_met, object_met, holds_named, looked_up, multiple_from, fitted, find_object}
 use Rattle.lists.specs.Lists.{first}
@@ -12,8 +11,7 @@ use Rattle.model.specs.declared.Handle.{Handle}
 use Rattle.lists.proofs.Bools.{and_left, and_right}
 use Rattle.lists.proofs.Lists.{first_some}
 use Rattle.survey.specs.declared.Wanted.{Wanted}
-use Rattle.survey.specs.declared.Surveyed.{Surveyed}
-use Rattle.survey.specs.Survey.{verdict_of, handle_of, place_of, block_at, block_of, fit_place, Survey}
+use Rattle.survey.specs.Survey.{handle_of, place_of, block_at, fit_place}
 
 -- the block that a handle names has its serial
 named_serial : (h : Handle) (s : List ℕ) (m : Met) → find_object h s ≡ Some m → h.serial ≡ m.serial

@@ -1,5 +1,6 @@
--- One block of the walk: each of the definition's tests, one of a free block's size and one of a live block's object decides it where it fails, and where
--- all pass, the settlement of a live block leaves the arrays as the walk wants them.
+-- One block of the walk: each of the definition's tests, one of a free block's size and one of a live block's object
+-- decides it where it fails, and where all pass, the settlement of a live block leaves the arrays as the walk wants
+-- them.
 use Rattle.std.specs.Prelude.{Option, Some, None}
 use Rattle.std.proofs.Common.{◌≡◌, ℕ, ◌-◌, ◌<◌, ◌≤◌, Bool, true, false, cond, not, ◌&&◌, ◌||◌, eqb, leb, ◌⊎◌, List, sym, refl, ap, ◌∙◌, subst, inl, inr, arith}
 use Rattle.std.proofs.Common.{eq-eqb, ne_eqb, le-leb, leb-false, leb-true}

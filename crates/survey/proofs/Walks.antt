@@ -1,7 +1,6 @@
--- The walk: on the way, the audit of the blocks from its start on is the audit of the blocks in the rest, with the keys and debts that are left, and their
--- objects
--- fit if those in the rest do. A rest that starts no block, among them one whose size is 0, or a back size that is wrong, is no cut; a block that fails or
--- does not fit fails the whole.
+-- The walk: on the way, the audit of the blocks from its start on is the audit of the blocks in the rest, with the keys
+-- and debts that are left, and their objects fit if those in the rest do. A rest that starts no block, among them one
+-- whose size is 0, or a back size that is wrong, is no cut; a block that fails or does not fit fails the whole.
 use Rattle.std.specs.Prelude.{Option, Some, None}
 use Rattle.std.proofs.Common.{◌≡◌, ℕ, ◌+◌, ◌-◌, ◌*◌, ◌%◌, ◌<◌, ◌≤◌, Bool, true, false, ◌&&◌, ◌⊎◌, List, [], ◌∷◌, length, drop, sym, refl, ap, ◌∙◌, ⊎_elim}
 use Rattle.std.proofs.Common.{arith, length-drop, drop-drop}
@@ -29,7 +28,8 @@ parsed_none last None = refl
 parsed_none last (Some []) = refl
 parsed_none last (Some (b ∷ bs)) = refl
 
--- on the way, from a rest, a back size and a block before on; `whole` is the audit from there, `fits` whether the objects from there fit
+-- on the way, from a rest, a back size and a block before on; `whole` is the audit from there, `fits` whether the
+-- objects from there fit
 pub record Walking (unit : ℕ → ℕ) (kind last : ℕ) (s words : List ℕ) (whole fits : Bool) (heads links owed : List ℕ) (left before back : ℕ) (rest : List ℕ) :
     Type 0 where
   pub inside : length rest ≤ length s

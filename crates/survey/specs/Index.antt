@@ -1,14 +1,14 @@
--- The index of the hold records: a slot has no record, one, or a tree of records. In a tree, the bits of a serial lead from record to record: the serial's
--- path.
--- A lone record is closed by its slot, one of a tree by a flag in its first link.
+-- The index of the hold records: a slot has no record, one, or a tree of records. In a tree, the bits of a serial lead
+-- from record to record: the serial's path. A lone record is closed by its slot, one of a tree by a flag in its first
+-- link.
 use Rattle.std.specs.Prelude.{◌≡◌, ℕ, zero, suc, ◌+◌, ◌-◌, ◌*◌, ◌/◌, ◌%◌, ◌<◌, ◌≤◌, Bool, true, cond, ◌&&◌, ◌⊎◌, List, map, length, ◌==◌, ◌≢◌, nat_le, nat_lt}
 use Rattle.std.specs.Prelude.{slice_index}
 use Rattle.accounts.specs.Accounts.{HOLDS}
 use Rattle.audit.specs.Keys.{key_of, for_serial}
 use Rattle.words.specs.Words.{tabulate, hold_in, serial_in}
 
--- the number of slots and of links; what an empty slot or link has; what is added to a slot's number when the record has others below it, and to a record's
--- first link when it is closed
+-- the number of slots and of links; what an empty slot or link has; what is added to a slot's number when the record
+-- has others below it, and to a record's first link when it is closed
 abbrev pub SLOTS : ℕ
 SLOTS = 2 * HOLDS
 

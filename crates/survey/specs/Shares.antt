@@ -26,6 +26,7 @@ is_shared hs q h = is_own q h && any (shares h.serial q) hs
 abbrev pub nothing_held : Holdings
 nothing_held = record { objects = 0; shared = 0 }
 
--- how many records a quota has, and how many of them are of objects that another quota holds too; none where a record is not well-formed
+-- how many records a quota has, and how many of them are of objects that another quota holds too; none where a record
+-- is not well-formed
 unfoldable pub holdings : ℕ → List Hold → Holdings
 holdings q hs = cond (all well_formed hs) (record { objects = how_many (is_own q) hs; shared = how_many (is_shared hs q) hs }) nothing_held

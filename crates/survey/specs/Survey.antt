@@ -1,6 +1,6 @@
 -- What the survey gives, by the definitions of `model`, `accounts` and `lookup`.
 use Rattle.model.specs.declared.Refusal.{Refusal}
-use Rattle.std.specs.Prelude.{◌≡◌, ℕ, Bool, true, false, cond, not, ◌&&◌, List, length, ◌==◌, ◌≢◌, nat_lt, Option, Some, None, Result, Ok, Err}
+use Rattle.std.specs.Prelude.{◌≡◌, ℕ, Bool, cond, not, ◌&&◌, List, length, ◌==◌, nat_lt, Option, Some, None, Result, Ok, Err}
 use Rattle.rounding.specs.Rounding.{table}
 use Rattle.accounts.specs.declared.Accounts.{Accounts}
 use Rattle.accounts.specs.declared.Hold.{Hold}
@@ -10,16 +10,10 @@ use Rattle.model.specs.Answers.{verdict_values}
 use Rattle.model.specs.Consistent.{is_of}
 use Rattle.model.specs.Calls.{check}
 use Rattle.model.specs.declared.Handle.{Handle}
-use Rattle.model.specs.declared.Refusal.TheVariants.{HeapLength, Inconsistent}
 use Rattle.lookup.specs.declared.Met.{Met}
-use Rattle.lookup.specs.Walk.{headed, fitted, find_object, find_fit}
+use Rattle.lookup.specs.Walk.{headed, find_object, find_fit}
 use Rattle.survey.specs.declared.Wanted.{Wanted}
-use Rattle.survey.specs.declared.Surveyed.{Surveyed}
 use Rattle.survey.specs.declared.Known.{Known}
-
--- the verdict that a number stands for
-unfoldable pub verdict_of : ℕ → Result (Unit {0}) Refusal
-verdict_of n = cond (n == 0) (Ok tt) (cond (n == 1) (Err HeapLength) (Err Inconsistent))
 
 -- the handle that was asked for
 abbrev pub handle_of : Wanted → Handle
@@ -45,30 +39,8 @@ fit_place fit s = cond (nat_lt fit (length s)) (Some (block_at fit s)) None
 unfoldable pub shares : ℕ → ℕ → Hold → Bool
 shares serial q h = is_of serial h && not (h.quota == q)
 
--- rule 8.35: the survey where the verdict refuses has its number alone; whatever was asked for, nothing is found
-abbrev pub refused_survey : ℕ → Surveyed
-refused_survey n =
-    record { refusal = n; low = HOLDS; fit = 0; found = false; at = 0; size = 0; holder = HOLDS; other = HOLDS }
-
--- the survey in numbers, where the verdict accepts. Left free are `at` and `size` where no object is found, and which
--- number of HOLDS or more (`low`, `holder`, `other`) or of the heap's length or more (`fit`) stands for none.
-pub record Seen (s : List ℕ) (k : Accounts) (w : Wanted) (r : Surveyed) : Type 0 where
-  pub block : block_of r.found r.at s ≡ find_object (handle_of w) s
-  pub size : r.found ≡ true → r.size ≡ (block_at r.at s).size
-  pub holder : place_of r.holder ≡ find_hold w.serial w.quota k
-  pub low : place_of r.low ≡ lowest_unused k
-  pub other : place_of r.other ≡ first_from (shares w.serial w.quota) 0 k.holds
-  pub fit : fitted w.unit (fit_place r.fit s) ≡ find_fit w.unit w.need s
-
--- its number is that of the check (rule 8.35), and where that refuses, all of it is settled
-pub record Numbered (s : List ℕ) (k : Accounts) (w : Wanted) (r : Surveyed) : Type 0 where
-  pub number : r.refusal ≡ (check (table k.edition) s k).values.refusal
-  pub refused : (r.refusal ≢ 0) → r ≡ refused_survey r.refusal
-  pub told : verdict_values (verdict_of r.refusal) ≡ (check (table k.edition) s k).values
-  pub seen : verdict_of r.refusal ≡ Ok tt → Seen s k w r
-
--- what a survey that accepts knows: the lowest unused record, the block whose object the handle names, the quota's record
--- for it and another quota's, and the first free block with room for a new object, with its base
+-- what a survey that accepts knows: the lowest unused record, the block whose object the handle names, the quota's
+-- record for it and another quota's, and the first free block with room for a new object, with its base
 abbrev pub known_of : List ℕ → Accounts → Wanted → Known
 known_of s k w =
     record {

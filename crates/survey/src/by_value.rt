@@ -1,11 +1,15 @@
-// The survey for accounts by value, and its numbers as the values that they stand for.
-ghost use Rattle.std.specs.Prelude.{◌≡◌, ◌+◌, ◌^◌, ◌<◌};
+// The survey for accounts by value, and what the walk knows by numbers as the values that they stand for.
+ghost use Rattle.std.specs.Prelude.{◌≡◌, ◌+◌, ◌-◌, ◌*◌, ◌^◌, ◌<◌, ◌≤◌};
 ghost use Rattle.rounding.specs.Rounding.{table};
 ghost use Rattle.model.specs.Answers.{verdict_values};
 ghost use Rattle.model.specs.Calls.{check as check_of};
-ghost use Rattle.lookup.specs.Walk.{multiple_from, fitted};
-ghost use Rattle.survey.specs.Survey.{Survey, block_of, place_of, fit_place};
+ghost use Rattle.layout.specs.Blocks.{greatest_heap};
+ghost use Rattle.lookup.specs.Walk.{multiple_from, fitted, holds_named};
+ghost use Rattle.survey.specs.Survey.{Survey, handle_of, block_of, place_of, fit_place};
+ghost use Rattle.survey.specs.Route.{half_met};
 
+use crate::walking::Walked;
+use crate::wanting::{Alignment, is_named, unit_of};
 use crate::{Known, Wanted, block_at, survey};
 use accounts::{Accounts, HOLDS};
 use lookup::Met;
@@ -48,7 +52,8 @@ pub fn survey_of(heap: &[u8], accounts: Accounts, wanted: Wanted) -> Result<Know
     survey(heap, &words, wanted)
 }
 
-// Rule 8.35, the verdict on a heap and its accounting state: refused for its length, refused as inconsistent, or accepted.
+// Rule 8.35, the verdict on a heap and its accounting state: refused for its length, refused as inconsistent, or
+// accepted.
 pub fn check(heap: &[u8], accounts: Accounts) -> Result<(), Refusal>
     ensures { verdict_values result ≡ (check_of (table accounts.edition) heap.now accounts).values }
 {
@@ -58,17 +63,26 @@ pub fn check(heap: &[u8], accounts: Accounts) -> Result<(), Refusal>
     }
 }
 
-// The block at a place, where the handle was found to name its object.
-pub(crate) fn found(heap: &[u8], found: bool, at: usize) -> Option<Met>
-    ensures { result ≡ block_of found at heap.now }
+// The block before the place to which the walk's first part came, where the handle names its object.
+pub(crate) fn found(heap: &[u8], wanted: Wanted, half: Walked) -> Option<Met>
+    requires { (8 * half.back ≤ half.at) × (half.at ≤ greatest_heap) }
+    ensures { result ≡ block_of (holds_named (handle_of wanted) (half_met half.at half.back half.before)) (half.at - 8 * half.back) heap.now }
 {
-    if !found {
+    let size = 8 * half.back;
+    let at = half.at - size;
+    let block = Met {
+        at: at,
+        size: size,
+        back: 0,
+        serial: half.before,
+    };
+    if !is_named(wanted, block) {
         return None;
     }
     Some(block_at(heap, at))
 }
 
-// The place of a record by its number.
+// The place of a record by its number, none where that is HOLDS or more.
 pub(crate) fn place(number: usize) -> Option<usize>
     ensures { result ≡ place_of number }
 {
@@ -79,12 +93,12 @@ pub(crate) fn place(number: usize) -> Option<usize>
 }
 
 // The lowest multiple of a unit behind the header at a place.
-fn base_in(at: usize, unit: usize) -> usize
-    requires { (0 < unit) × (unit < 2 ^ 32) × (at < 2 ^ 63) }
-    ensures { result ≡ multiple_from unit (at + 8) }
+fn base_in(at: usize, unit: Alignment) -> usize
+    requires { at < 2 ^ 63 }
+    ensures { result ≡ multiple_from unit.bytes (at + 8) }
 {
     let start = at + 8;
-    start + (unit - 1 - (start - 1) % unit)
+    start + (unit.bytes - 1 - (start - 1) % unit.bytes)
 }
 
 // The block with room by its place, and the base of an object in it. The only multiple of 0 is 0.
@@ -98,5 +112,5 @@ pub(crate) fn room(heap: &[u8], fit: usize, unit: u32) -> Option<(Met, usize)>
     if unit == 0 {
         return Some((block, 0));
     }
-    Some((block, base_in(fit, unit as usize)))
+    Some((block, base_in(fit, unit_of(unit))))
 }

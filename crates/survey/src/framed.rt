@@ -1,19 +1,20 @@
-// The verdict on a heap that lies in the frames of an image: the survey's index, and a walk that reads the headers out of the stream.
+// The verdict on a heap that lies in the frames of an image: the survey's index, and a walk that reads the headers out
+// of the stream.
 ghost use Rattle.std.specs.Prelude.{◌≡◌, ◌<◌, ◌≤◌, true, drop};
 ghost use Rattle.rounding.specs.Rounding.{table};
-ghost use Rattle.layout.specs.Blocks.{header_at, cut};
+ghost use Rattle.layout.specs.Blocks.{header_at};
 ghost use Rattle.framing.specs.Frames.{padded, stream_of};
 ghost use Rattle.model.specs.Answers.{verdict_values};
-ghost use Rattle.model.specs.Consistent.{allowed, greatest_serial};
+ghost use Rattle.model.specs.Consistent.{allowed};
 ghost use Rattle.model.specs.Calls.{check as check_of};
 ghost use Rattle.words.specs.Words.{edition_of, accounts_of};
-ghost use Rattle.survey.specs.Index.{keys_left};
-ghost use Rattle.survey.specs.Clauses.{Ready, judged, heap_in};
+ghost use Rattle.survey.specs.Clauses.{ReadyFor, judged_whole, heap_in};
 
-use crate::paying::is_settled;
-use crate::walking::visit;
-use crate::{END, HEAP_LENGTH, INCONSISTENT, LINKS, Numbers, SLOTS, begin, verdict};
-use accounts::{HOLDS, QUOTAS};
+use crate::begin;
+use crate::indexing::HoldIndex;
+use crate::numbers::Numbers;
+use crate::settling::Unsettled;
+use accounts::QUOTAS;
 use layout::Header;
 use model::Refusal;
 use words::WORDS;
@@ -27,23 +28,21 @@ fn header_in(image: &[u8], at: u32) -> Header
     layout::header_at(&bytes, 0)
 }
 
-// The walk over the blocks of the heap that has so many bytes of the stream from a place on: whether the heap is cut into blocks, each as it must be and with
-// an object that fits its unit, and then no record is open and no quota owes anything. It reads headers out of the stream and seeks no room, so it
-// shares `visit` with `walk`, and not the loop. Each header says where the next one is; no index is counted.
+// The walk over the blocks of the heap that has so many bytes of the stream from a place on: whether the heap is cut
+// into blocks, each as it must be and with an object that fits its unit, and then no record is open and no quota owes
+// anything. It shares `visit` with `walk`, and not the loop: it copies each header out of the stream, where `walk` has
+// the rest of a slice, and it seeks no room.
+// A `while`: each header says where the next one is.
 fn walk_frames(
     image: &[u8],
     from: u16,
     size: usize,
     words: &[u32; WORDS],
-    links: &mut [u16; LINKS],
-    heads: &mut [u16; SLOTS],
-    owed: &mut [usize; QUOTAS],
-    left: &mut usize,
+    unsettled: &mut Unsettled,
     numbers: Numbers,
 ) -> bool
-    requires { (numbers.last ≤ greatest_serial) × (allowed size ≡ true) × Ready words.now heads.old links.old owed.old left.old }
-    ensures { result ≡ judged (table numbers.edition) numbers.kind numbers.last 0 (cut 0 (drop 0 (heap_in from size image.now))) 1
-        (keys_left words.now heads.old links.old) owed.old }
+    requires { (allowed size ≡ true) × ReadyFor words.now unsettled.old }
+    ensures { result ≡ judged_whole numbers (heap_in from size image.now) words.now unsettled.old }
 {
     let start = from as usize;
     let mut at: usize = 0;
@@ -60,21 +59,18 @@ fn walk_frames(
         }
         let serial = header.serial;
         let end = at + bytes;
-        if !visit(
-            words, links, heads, owed, left, numbers, before, serial, bytes, end, 0,
-        ) {
+        if !unsettled.visit(words, numbers, before, serial, bytes, end, 0) {
             return false;
         }
         before = serial;
         back = header.size;
         at = end;
     }
-    let open = *left;
-    is_settled(owed, open)
+    unsettled.is_settled()
 }
 
-// Rule 8.35, the verdict on the heap that has so many bytes of an image's stream from a place on, and its accounting state: as `check` gives it for a heap in
-// one piece.
+// Rule 8.35, the verdict on the heap that has so many bytes of an image's stream from a place on, and its accounting
+// state: as `check` gives it for a heap in one piece.
 pub fn check_in_frames(
     image: &[u8],
     from: u16,
@@ -85,28 +81,17 @@ pub fn check_in_frames(
         (accounts_of words.now)).values }
 {
     if !model::is_allowed(size) {
-        return verdict(HEAP_LENGTH);
+        return Err(Refusal::HeapLength);
     }
-    let end = END as u16;
-    let mut links = [end; LINKS];
-    let mut heads = [end; SLOTS];
-    let mut owed = [0usize; QUOTAS];
-    let Some(begun) = begin(words, &mut links, &mut heads, &mut owed) else {
-        return verdict(INCONSISTENT);
+    let mut unsettled = Unsettled {
+        index: HoldIndex::empty(),
+        owed: [0; QUOTAS],
     };
-    let mut left = begun.tally.used;
-    if !walk_frames(
-        image,
-        from,
-        size,
-        words,
-        &mut links,
-        &mut heads,
-        &mut owed,
-        &mut left,
-        begun.numbers,
-    ) {
-        return verdict(INCONSISTENT);
+    let Some(begun) = begin(words, &mut unsettled) else {
+        return Err(Refusal::Inconsistent);
+    };
+    if !walk_frames(image, from, size, words, &mut unsettled, begun.numbers) {
+        return Err(Refusal::Inconsistent);
     }
-    verdict(0)
+    Ok(())
 }

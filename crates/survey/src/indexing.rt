@@ -1,5 +1,5 @@
 // The pass over the records that builds the index.
-ghost use Rattle.std.specs.Prelude.{◌≡◌, ◌+◌, ◌<◌, ◌≤◌, true, false, ◌&&◌, ltb, if◌then◌else◌, ◌==◌, ◌≢◌, nat_le, nat_lt, MatchOption};
+ghost use Rattle.std.specs.Prelude.{◌≡◌, ℕ, ◌+◌, ◌<◌, ◌≤◌, true, false, ◌&&◌, List, ◌==◌, ◌≢◌, nat_le, nat_lt, MatchOption};
 ghost use Rattle.lists.specs.Lists.{all};
 ghost use Rattle.audit.specs.Keys.{well_formed};
 ghost use Rattle.accounts.specs.Accounts.{QUOTAS, HOLDS};
@@ -7,19 +7,13 @@ ghost use Rattle.words.specs.Words.{serial_in, quota_in, count_in, holds_of};
 ghost use Rattle.survey.specs.Index.{bits_of, Growing, Built};
 ghost use Rattle.survey.specs.Clauses.{Zeros, Blank, Hung, Index};
 
-use crate::reading::{count_in, fork, head_in, number_in, quota_in, serial_in, slot_of};
+use crate::reading::{count_in, fork, quota_in, serial_in, slot_of};
 use crate::{END, FORKED, LINKS, SLOTS};
 use accounts::{HOLDS, QUOTAS};
 use words::{FIRST, WORDS};
 
-// What the pass gives: the place of the lowest record that is unused, HOLDS where none is, and how many are used.
-#[derive(Clone, Copy)]
-pub(crate) struct Tally {
-    pub low: usize,
-    pub used: usize,
-}
-
-// Whether so many records from a place on are all zero. The last one is read first: where the table is full up to there, no other is.
+// Whether so many records from a place on are all zero. The last one is read first: where the table is full up to
+// there, no other is.
 fn are_blank(words: &[u32; WORDS], from: usize, count: usize) -> bool
     requires { (0 < count) × (from + count ≤ HOLDS) }
     ensures { result ≡ true → Zeros words.now from count }
@@ -71,41 +65,8 @@ fn is_possible(words: &[u32; WORDS], at: usize) -> bool
     1 <= count_in(words, at)
 }
 
-// A record is hung into the empty link at the end of its serial's path. The loop follows links; no index is counted.
-fn hang(links: &mut [u16; LINKS], root: usize, serial: u32, i: usize)
-    requires { (root < i) × (i < HOLDS) × Growing i links.old }
-    ensures { Hung (bits_of serial) root i links.old links.new }
-{
-    let mut at = root;
-    let mut bits = serial / 2;
-    let mut link: usize = 0;
-    while at < HOLDS {
-        link = at + fork(bits);
-        at = number_in(links, link);
-        bits = bits / 2;
-    }
-    links[link] = i as u16;
-}
-
-// A used record is entered into its serial's slot: alone, or at the end of its path.
-fn enter(words: &[u32; WORDS], links: &mut [u16; LINKS], heads: &mut [u16; SLOTS], i: usize)
-    requires { (i < HOLDS) × (serial_in words.now i ≢ 0) × Built words.now i heads.old links.old }
-    ensures { Built words.now (i + 1) heads.new links.new }
-{
-    let serial = serial_in(words, i);
-    let slot = slot_of(serial);
-    let head = head_in(heads, slot);
-    if head == END {
-        heads[slot] = i as u16;
-    } else if head < HOLDS {
-        heads[slot] = (FORKED + head) as u16;
-        hang(links, head, serial, i);
-    } else {
-        hang(links, head - FORKED, serial, i);
-    }
-}
-
-// A place from which on all records are blank, by steps that halve. It is no part of the index, which is then short enough to be compiled into its callers.
+// A place from which on all records are blank, by steps that halve. It is no part of the index, which is then short
+// enough to be compiled into its callers.
 pub(crate) fn used_top(words: &[u32; WORDS]) -> usize
     ensures { (result ≤ HOLDS) × Blank words.now result }
 {
@@ -116,37 +77,91 @@ pub(crate) fn used_top(words: &[u32; WORDS]) -> usize
     top
 }
 
-// The used records before a place are entered from the first place up; from there on all are blank. None where a record is not well-formed.
-pub(crate) fn index(
-    words: &[u32; WORDS],
-    links: &mut [u16; LINKS],
-    heads: &mut [u16; SLOTS],
-    top: usize,
-) -> Option<Tally>
-    requires { (top ≤ HOLDS) × Blank words.now top × Built words.now 0 heads.old links.old }
-    ensures { MatchOption result (all well_formed (holds_of words.now) ≡ false)
-        (λ t. Index words.now heads.new links.new t.low t.used) }
-{
-    let mut low = top;
-    let mut blank: usize = 0;
-    for i in 0..top {
+// The index of the hold records: the number of each slot and of the two links of each record, and how many records are
+// open. A number is the record's place: there is no heap for nodes. The count stands between the tables so that the
+// compiler fills each of them by itself: valgrind counts 3,841 instructions more where it fills both as one.
+#[derive(Drop)]
+pub(crate) struct HoldIndex {
+    pub heads: [u16; SLOTS],
+    pub left: usize,
+    pub links: [u16; LINKS],
+}
+
+impl HoldIndex {
+    // The index of no record.
+    #[inline(always)]
+    pub(crate) fn empty() -> HoldIndex
+        ensures { (words : List ℕ) → Built words 0 result.heads result.links }
+    {
+        let end = END as u16;
+        HoldIndex {
+            heads: [end; SLOTS],
+            left: 0,
+            links: [end; LINKS],
+        }
+    }
+
+    // A record is hung into the empty link at the end of its serial's path.
+    // A `while`: the loop follows links, and counts no index.
+    fn hang(&mut self, root: usize, serial: u32, i: usize)
+        requires { (root < i) × (i < HOLDS) × Growing i self.old.links }
+        ensures { Hung (bits_of serial) root i self.old.links self.new.links × (self.new.heads ≡ self.old.heads) }
+    {
+        let mut at = root;
+        let mut bits = serial / 2;
+        let mut link: usize = 0;
+        while at < HOLDS {
+            link = at + fork(bits);
+            at = self.number_in(link);
+            bits = bits / 2;
+        }
+        self.links[link] = i as u16;
+    }
+
+    // A used record is entered into its serial's slot: alone, or at the end of its path.
+    fn enter(&mut self, words: &[u32; WORDS], i: usize)
+        requires { (i < HOLDS) × (serial_in words.now i ≢ 0) × Built words.now i self.old.heads self.old.links }
+        ensures { Built words.now (i + 1) self.new.heads self.new.links }
+    {
         let serial = serial_in(words, i);
-        if serial == 0 {
-            if !is_blank(words, i) {
+        let slot = slot_of(serial);
+        let head = self.head_in(slot);
+        if head == END {
+            self.heads[slot] = i as u16;
+        } else if head < HOLDS {
+            self.heads[slot] = (FORKED + head) as u16;
+            self.hang(head, serial, i);
+        } else {
+            self.hang(head - FORKED, serial, i);
+        }
+    }
+
+    // The used records before a place are entered from the first place up; from there on all are blank. The answer is
+    // the place of the lowest unused record, HOLDS where none is; None where a record is not well-formed.
+    // A number: the pass has the least place in a register.
+    pub(crate) fn enter_all(&mut self, words: &[u32; WORDS], top: usize) -> Option<usize>
+        requires { (top ≤ HOLDS) × Blank words.now top × Built words.now 0 self.old.heads self.old.links }
+        ensures { MatchOption result (all well_formed (holds_of words.now) ≡ false)
+            (λ low. Index words.now self.new.heads self.new.links low self.new.left) }
+    {
+        let mut low = top;
+        let mut blank: usize = 0;
+        for i in 0..top {
+            let serial = serial_in(words, i);
+            if serial == 0 {
+                if !is_blank(words, i) {
+                    return None;
+                }
+                low = low.min(i);
+                blank += 1;
+                continue;
+            }
+            if !is_possible(words, i) {
                 return None;
             }
-            low = low.min(i);
-            blank += 1;
-            continue;
+            self.enter(words, i);
         }
-        if !is_possible(words, i) {
-            return None;
-        }
-        enter(words, links, heads, i);
+        self.left = top - blank;
+        Some(low)
     }
-    let used = top - blank;
-    Some(Tally {
-        low: low,
-        used: used,
-    })
 }

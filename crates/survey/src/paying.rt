@@ -6,6 +6,7 @@ ghost use Rattle.audit.specs.Clauses.{Owing};
 ghost use Rattle.words.specs.Words.{quotas_of};
 
 use crate::reading::{grant_in, remainder_in, spare_in};
+use crate::settling::Unsettled;
 use accounts::{ALL_PERMISSIONS, QUOTAS};
 use words::WORDS;
 
@@ -19,10 +20,9 @@ fn short_at(short: u32, grant: u32, remainder: u32) -> u32
     short
 }
 
-// What each quota owes; false where a remainder is above its grant, or a number is no quota's permissions (rule 15.2). No quota ends the loop, which is so the
-// faster.
-pub(crate) fn owing(words: &[u32; WORDS], owed: &mut [usize; QUOTAS]) -> bool
-    requires { length owed.old ≡ QUOTAS }
+// What each quota owes; false where a remainder is above its grant, or a number is no quota's permissions (rule 15.2).
+// No quota ends the loop, which is so the faster.
+pub(crate) fn owing(words: &[u32; WORDS], owed: &mut [u32; QUOTAS]) -> bool
     ensures { Owing (quotas_of words.now) result owed.new }
 {
     let mut short: u32 = 0;
@@ -34,7 +34,7 @@ pub(crate) fn owing(words: &[u32; WORDS], owed: &mut [usize; QUOTAS]) -> bool
         let due = grant.saturating_sub(remainder);
         short = short_at(short, grant, remainder);
         bits |= spare;
-        owed[i] = due as usize;
+        owed[i] = due;
     }
     if short != 0 {
         return false;
@@ -44,24 +44,24 @@ pub(crate) fn owing(words: &[u32; WORDS], owed: &mut [usize; QUOTAS]) -> bool
 }
 
 // Whether nothing is owed: whether the debts have no bit between them.
-fn is_paid(owed: &[usize; QUOTAS]) -> bool
-    requires { length owed.now ≡ QUOTAS }
+fn is_paid(owed: &[u32; QUOTAS]) -> bool
     ensures { result ≡ all_zero owed.now }
 {
-    let mut bits: usize = 0;
+    let mut bits: u32 = 0;
     for i in 0..QUOTAS {
         bits |= owed[i];
     }
     bits == 0
 }
 
-// Whether no record is open and nothing is owed.
-pub(crate) fn is_settled(owed: &[usize; QUOTAS], left: usize) -> bool
-    requires { length owed.now ≡ QUOTAS }
-    ensures { result ≡ (left == 0 && all_zero owed.now) }
-{
-    if left != 0 {
-        return false;
+impl Unsettled {
+    // Whether no record is open and nothing is owed.
+    pub(crate) fn is_settled(&self) -> bool
+        ensures { result ≡ (self.now.index.left == 0 && all_zero self.now.owed) }
+    {
+        if self.index.left != 0 {
+            return false;
+        }
+        is_paid(&self.owed)
     }
-    is_paid(owed)
 }

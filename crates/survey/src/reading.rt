@@ -4,6 +4,7 @@ ghost use Rattle.accounts.specs.Accounts.{QUOTAS, HOLDS};
 ghost use Rattle.words.specs.Words.{serial_in, quota_in, count_in, grant_in, remainder_in, spare_in};
 ghost use Rattle.survey.specs.Index.{SLOTS, LINKS, slot, fork, step};
 
+use crate::indexing::HoldIndex;
 use crate::{LINKS, SLOTS};
 use accounts::{HOLDS, QUOTAS};
 use words::{FIRST, WORDS};
@@ -70,41 +71,28 @@ pub(crate) fn fork(bits: u32) -> usize
     HOLDS * (bits as usize / HOLDS % 2)
 }
 
-// A number of a slot or a link, wide.
-fn wide(number: u16) -> usize
-    ensures { (result ≡ number) × (result < 65536) }
-{
-    number as usize
-}
+impl HoldIndex {
+    // The number of a slot.
+    pub(crate) fn head_in(&self, slot: usize) -> usize
+        requires { slot < SLOTS }
+        ensures { (result ≡ slice_index self.now.heads slot) × (result < 65536) }
+    {
+        usize::from(self.heads[slot])
+    }
 
-// The number of a slot.
-pub(crate) fn head_in(heads: &[u16; SLOTS], slot: usize) -> usize
-    requires { slot < SLOTS }
-    ensures { (result ≡ slice_index heads.now slot) × (result < 65536) }
-{
-    wide(heads[slot])
-}
+    // The number of the link that some bits choose at a record.
+    pub(crate) fn link_in(&self, at: usize, bits: u32) -> usize
+        requires { at < HOLDS }
+        ensures { (result ≡ step self.now.links bits at) × (result < 65536) }
+    {
+        usize::from(self.links[at + fork(bits)])
+    }
 
-// The number of the link that some bits choose at a record.
-pub(crate) fn link_in(links: &[u16; LINKS], at: usize, bits: u32) -> usize
-    requires { at < HOLDS }
-    ensures { (result ≡ step links.now bits at) × (result < 65536) }
-{
-    wide(links[at + fork(bits)])
-}
-
-// The first link of a record, with the flag.
-pub(crate) fn flag_in(links: &[u16; LINKS], at: usize) -> usize
-    requires { at < HOLDS }
-    ensures { (result ≡ slice_index links.now at) × (result < 65536) }
-{
-    wide(links[at])
-}
-
-// The number of a link.
-pub(crate) fn number_in(links: &[u16; LINKS], link: usize) -> usize
-    requires { link < LINKS }
-    ensures { (result ≡ slice_index links.now link) × (result < 65536) }
-{
-    wide(links[link])
+    // The number of a link. A record's first link stands at its place, and has the flag of a closed record.
+    pub(crate) fn number_in(&self, link: usize) -> usize
+        requires { link < LINKS }
+        ensures { (result ≡ slice_index self.now.links link) × (result < 65536) }
+    {
+        usize::from(self.links[link])
+    }
 }

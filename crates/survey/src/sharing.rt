@@ -1,4 +1,5 @@
-// What a quota holds, in one pass over the records. A path of the index leads to another quota's record for the same object, past few records of other serials.
+// What a quota holds, in one pass over the records. A path of the index leads to another quota's record for the same
+// object, past few records of other serials.
 ghost use Rattle.std.specs.Prelude.{◌≡◌, ◌<◌, true};
 ghost use Rattle.accounts.specs.Accounts.{HOLDS};
 ghost use Rattle.lists.specs.Lists.{all};
@@ -7,10 +8,8 @@ ghost use Rattle.words.specs.Words.{hold_in, holds_of};
 ghost use Rattle.survey.specs.Index.{Built};
 ghost use Rattle.survey.specs.Shares.{one_if, how_many, is_own, is_shared, holdings};
 
-use crate::finding::on_path;
-use crate::indexing::{index, used_top};
+use crate::indexing::{HoldIndex, used_top};
 use crate::reading::{quota_in, serial_in};
-use crate::{END, LINKS, SLOTS};
 use accounts::HOLDS;
 use words::WORDS;
 
@@ -37,29 +36,26 @@ fn own_at(words: &[u32; WORDS], quota: u32, at: usize) -> usize
 }
 
 // 1 where it is, and another quota holds its object too.
-fn shared_at(
-    words: &[u32; WORDS],
-    links: &[u16; LINKS],
-    heads: &[u16; SLOTS],
-    quota: u32,
-    at: usize,
-) -> usize
-    requires { (at < HOLDS) × Built words.now HOLDS heads.now links.now × (all well_formed (holds_of words.now) ≡ true) }
+fn shared_at(words: &[u32; WORDS], index: &HoldIndex, quota: u32, at: usize) -> usize
+    requires { (at < HOLDS) × Built words.now HOLDS index.now.heads index.now.links × (all well_formed (holds_of words.now) ≡ true) }
     ensures { result ≡ one_if (is_shared (holds_of words.now) quota (hold_in words.now at)) }
 {
     if own_at(words, quota, at) == 0 {
         return 0;
     }
     let serial = serial_in(words, at);
-    if on_path(words, links, heads, serial, quota, false) < HOLDS {
+    if index
+        .on_path(words, serial, |other| other != quota)
+        .is_some()
+    {
         return 1;
     }
     0
 }
 
 // The counts over the records that are indexed.
-fn held_in(words: &[u32; WORDS], links: &[u16; LINKS], heads: &[u16; SLOTS], quota: u32) -> Holdings
-    requires { Built words.now HOLDS heads.now links.now × (all well_formed (holds_of words.now) ≡ true) }
+fn held_in(words: &[u32; WORDS], index: &HoldIndex, quota: u32) -> Holdings
+    requires { Built words.now HOLDS index.now.heads index.now.links × (all well_formed (holds_of words.now) ≡ true) }
     ensures { result ≡ record {
       objects = how_many (is_own quota) (holds_of words.now);
       shared = how_many (is_shared (holds_of words.now) quota) (holds_of words.now);
@@ -69,7 +65,7 @@ fn held_in(words: &[u32; WORDS], links: &[u16; LINKS], heads: &[u16; SLOTS], quo
     let mut shared: usize = 0;
     for i in 0..HOLDS {
         objects += own_at(words, quota, i);
-        shared += shared_at(words, links, heads, quota, i);
+        shared += shared_at(words, index, quota, i);
     }
     Holdings {
         objects: objects,
@@ -81,15 +77,13 @@ fn held_in(words: &[u32; WORDS], links: &[u16; LINKS], heads: &[u16; SLOTS], quo
 pub fn held_by(words: &[u32; WORDS], quota: u32) -> Holdings
     ensures { result ≡ holdings quota (holds_of words.now) }
 {
-    let end = END as u16;
-    let mut links = [end; LINKS];
-    let mut heads = [end; SLOTS];
+    let mut index = HoldIndex::empty();
     let top = used_top(words);
-    let Some(_) = index(words, &mut links, &mut heads, top) else {
+    let Some(_) = index.enter_all(words, top) else {
         return Holdings {
             objects: 0,
             shared: 0,
         };
     };
-    held_in(words, &links, &heads, quota)
+    held_in(words, &index, quota)
 }

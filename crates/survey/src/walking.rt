@@ -1,17 +1,15 @@
 // The walk over the blocks.
-ghost use Rattle.std.specs.Prelude.{◌≡◌, ◌-◌, ◌%◌, ◌^◌, ◌<◌, ◌≤◌, true, false, ◌&&◌, drop, if◌then◌else◌, ◌==◌, nat_le, MatchOption};
+ghost use Rattle.std.specs.Prelude.{◌≡◌, ◌-◌, ◌%◌, ◌^◌, ◌<◌, ◌≤◌, false, ◌&&◌, ◌==◌, nat_le, MatchOption};
 ghost use Rattle.rounding.specs.Rounding.{table};
 ghost use Rattle.layout.specs.Blocks.{QUARANTINED};
-ghost use Rattle.model.specs.Consistent.{fits_unit, greatest_serial};
-ghost use Rattle.survey.specs.Clauses.{Ready, Visited, Stage, judged, WalkedTo};
-ghost use Rattle.survey.specs.Index.{keys_left};
+ghost use Rattle.model.specs.Consistent.{fits_unit};
+ghost use Rattle.survey.specs.Clauses.{ReadyFor, VisitedBy, StageOf, judged_of, WalkedBy};
 ghost use Rattle.survey.specs.Route.{Reaches, Passed};
 ghost use Rattle.lookup.specs.Walk.{has_room};
-ghost use Rattle.layout.specs.Blocks.{cut};
 
-use crate::settling::settle;
-use crate::{LINKS, Numbers, SLOTS};
-use accounts::QUOTAS;
+use crate::numbers::Numbers;
+use crate::settling::Unsettled;
+use crate::wanting::Alignment;
 use layout::QUARANTINED;
 use std::num::wrapping_sub_usize;
 use words::WORDS;
@@ -19,9 +17,11 @@ use words::WORDS;
 // How many sizes from 16 bytes on a live block may have whose object has unit 8 in both editions.
 const SHORT: usize = 4104 - 16;
 
-// Whether a live block that ends at a place is long enough, and base and length of its object are multiples of its unit. Sizes and ends are multiples of 8,
-// which is the unit of a short object, so one comparison decides most blocks. A length is a multiple of its unit exactly if it is one of the unit by its
-// leading zeros, and then the two are the same; and then the base is a multiple exactly if the end is.
+// Whether a live block that ends at a place is long enough, and base and length of its object are multiples of its
+// unit. Sizes and ends are multiples of 8, which is the unit of a short object, so one comparison decides most blocks.
+// A length is a multiple of its unit exactly if it is one of the unit by its leading zeros, and then the two are the
+// same; and then the base is a multiple exactly if the end is.
+// The edition is a number: C lends any byte, and refusal 2 answers what is no edition.
 fn is_fitting(edition: u8, size: usize, end: usize) -> bool
     requires { (size % 8 ≡ 0) × (end % 8 ≡ 0) × (size ≤ end) × (size < 2 ^ 32) }
     ensures { result ≡ (nat_le 16 size && fits_unit (table edition) (end - (size - 8)) (size - 8)) }
@@ -41,6 +41,7 @@ fn is_fitting(edition: u8, size: usize, end: usize) -> bool
 }
 
 // Whether a block is quarantined, long enough, and of the heap's kind.
+// The kind is a number: C lends any byte, and refusal 2 answers what is no kind.
 fn is_waiting(kind: u8, serial: u32, size: usize) -> bool
     ensures { result ≡ (serial == QUARANTINED && (nat_le 16 size && kind == 1)) }
 {
@@ -57,8 +58,9 @@ fn is_waiting(kind: u8, serial: u32, size: usize) -> bool
 pub(crate) const TAKEN: usize = 8 * 65536;
 
 // Where the walk has come to: the place, units and serial of the block before it, the place of the first free block
-// with room, the heap's length where none has,
-// and the bytes that are still sought, TAKEN where a block was found.
+// with room, and the bytes that are still sought.
+// Numbers: the walk has them in registers. `fit` is the heap's length where no block was found, and `need` is TAKEN
+// where one was, so that one comparison tells for each free block whether it is too small or not sought.
 #[derive(Clone, Copy)]
 pub(crate) struct Walked {
     pub at: usize,
@@ -68,49 +70,46 @@ pub(crate) struct Walked {
     pub need: usize,
 }
 
-// A block of the walk, behind one with the serial `before`: a live one closes its records and is paid for. False where
-// the block is not as it must be, not of the heap's kind, or its object does not fit its unit. The block ends where
-// `after` of `whole` bytes are left; that place is worked out for long objects only, which keeps a register free.
-// Where this is a call, a check runs up to 65 % more instructions.
-#[inline(always)]
-pub(crate) fn visit(
-    words: &[u32; WORDS],
-    links: &mut [u16; LINKS],
-    heads: &mut [u16; SLOTS],
-    owed: &mut [usize; QUOTAS],
-    left: &mut usize,
-    numbers: Numbers,
-    before: u32,
-    serial: u32,
-    size: usize,
-    whole: usize,
-    after: usize,
-) -> bool
-    requires { Ready words.now heads.old links.old owed.old left.old × (numbers.last ≤ greatest_serial)
-        × (size % 8 ≡ 0) × ((whole - after) % 8 ≡ 0) × (size ≤ whole - after) × (size < 2 ^ 32) × (after ≤ whole) }
-    ensures { Visited (table numbers.edition) numbers.kind numbers.last serial size (whole - after) before
-        words.now heads.old links.old owed.old
-        result heads.new links.new owed.new left.new }
-{
-    if serial == 0 {
-        if before == 0 {
+impl Unsettled {
+    // A block of the walk, behind one with the serial `before`: a live one closes its records and is paid for. False
+    // where the block is not as it must be, not of the heap's kind, or its object does not fit its unit. The block ends
+    // where `after` of `whole` bytes are left; that place is worked out for long objects only, which keeps a register
+    // free. Where this is a call, a check runs up to 65 % more instructions.
+    #[inline(always)]
+    pub(crate) fn visit(
+        &mut self,
+        words: &[u32; WORDS],
+        numbers: Numbers,
+        before: u32,
+        serial: u32,
+        size: usize,
+        whole: usize,
+        after: usize,
+    ) -> bool
+        requires { ReadyFor words.now self.old
+            × (size % 8 ≡ 0) × ((whole - after) % 8 ≡ 0) × (size ≤ whole - after) × (size < 2 ^ 32) × (after ≤ whole) }
+        ensures { VisitedBy numbers serial size (whole - after) before words.now self.old result self.new }
+    {
+        if serial == 0 {
+            if before == 0 {
+                return false;
+            }
+            return 8 <= size;
+        }
+        if numbers.last < serial {
+            return is_waiting(numbers.kind, serial, size);
+        }
+        if !is_fitting(numbers.edition, size, whole - after) {
             return false;
         }
-        return 8 <= size;
+        self.settle(words, serial, size)
     }
-    if numbers.last < serial {
-        return is_waiting(numbers.kind, serial, size);
-    }
-    if !is_fitting(numbers.edition, size, whole - after) {
-        return false;
-    }
-    settle(words, links, heads, owed, left, serial, size)
 }
 
 // Whether a block that ends at a place is free and has room for `need` bytes at a multiple of `unit`.
-fn is_roomy(serial: u32, size: usize, end: usize, unit: usize, need: usize) -> bool
-    requires { (0 < unit) × (unit < 2 ^ 32) × (8 ≤ size) × (size ≤ end) × (size < 2 ^ 32) }
-    ensures { result ≡ has_room unit need (record { at = end - size; size = size; back = 0; serial = serial }) }
+fn is_roomy(serial: u32, size: usize, end: usize, unit: Alignment, need: usize) -> bool
+    requires { (8 ≤ size) × (size ≤ end) × (size < 2 ^ 32) }
+    ensures { result ≡ has_room unit.bytes need (record { at = end - size; size = size; back = 0; serial = serial }) }
 {
     if serial != 0 {
         return false;
@@ -120,34 +119,27 @@ fn is_roomy(serial: u32, size: usize, end: usize, unit: usize, need: usize) -> b
     }
     let room = size - 8;
     let start = end - room;
-    let gap = unit - 1 - (start - 1) % unit;
+    let gap = unit.bytes - 1 - (start - 1) % unit.bytes;
     gap + need <= room
 }
 
-// The walk over the blocks from a place on, as long as `edge` bytes are left: whether the heap is cut into blocks there, each as it must be and with an object
-// that fits its unit; None where it is not. Each header says where the next one is, so no index is counted.
+// The walk over the blocks from a place on, as long as `edge` bytes are left: whether the heap is cut into blocks
+// there, each as it must be and with an object that fits its unit; None where it is not.
+// A `while`: each header says where the next one is.
 pub(crate) fn walk(
     heap: &[u8],
     words: &[u32; WORDS],
-    links: &mut [u16; LINKS],
-    heads: &mut [u16; SLOTS],
-    owed: &mut [usize; QUOTAS],
-    left: &mut usize,
+    unsettled: &mut Unsettled,
     numbers: Numbers,
     edge: usize,
-    unit: usize,
+    unit: Alignment,
     from: Walked,
 ) -> Option<Walked>
-    requires { (numbers.last ≤ greatest_serial) × (8 ≤ edge) × (0 < unit) × (unit < 2 ^ 32)
-        × Stage heap.now words.now heads.old links.old owed.old left.old from.at }
+    requires { (8 ≤ edge) × StageOf heap.now words.now unsettled.old from.at }
     ensures { MatchOption result
-        (judged (table numbers.edition) numbers.kind numbers.last from.at (cut from.back (drop from.at heap.now))
-        from.before (keys_left words.now heads.old links.old) owed.old ≡ false)
-        (λ w. WalkedTo (table numbers.edition) numbers.kind numbers.last edge heap.now words.now
-        (judged (table numbers.edition) numbers.kind numbers.last from.at (cut from.back (drop from.at heap.now))
-        from.before (keys_left words.now heads.old links.old) owed.old)
-        w.at w.back w.before heads.new links.new owed.new left.new
-        × (Reaches heap.now from.at → Passed heap.now edge unit from.at from.fit from.need
+        (judged_of numbers from heap.now words.now unsettled.old ≡ false)
+        (λ w. WalkedBy numbers edge heap.now words.now (judged_of numbers from heap.now words.now unsettled.old) w unsettled.new
+        × (Reaches heap.now from.at → Passed heap.now edge unit.bytes from.at from.fit from.need
         w.at w.back w.before w.fit w.need)) }
 {
     let mut before = from.before;
@@ -166,12 +158,8 @@ pub(crate) fn walk(
         }
         let serial = header.serial;
         let after = &rest[size..];
-        if !visit(
+        if !unsettled.visit(
             words,
-            links,
-            heads,
-            owed,
-            left,
             numbers,
             before,
             serial,

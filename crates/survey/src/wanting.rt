@@ -1,13 +1,13 @@
 // What the walk is asked for, and what its answers say of it.
 ghost use Rattle.std.specs.Prelude.{◌≡◌, ◌+◌, ◌^◌, ◌<◌, ◌≤◌, if◌then◌else◌, ◌≢◌, nat_eq};
 ghost use Rattle.lookup.specs.Walk.{holds_named};
+ghost use Rattle.survey.specs.Survey.{handle_of};
 ghost use Rattle.survey.specs.Route.{edge_of};
-ghost use Rattle.survey.specs.Survey.{refused_survey};
 
-use crate::Surveyed;
+use crate::Wanted;
 use crate::walking::TAKEN;
-use accounts::HOLDS;
 use layout::QUARANTINED;
+use lookup::Met;
 
 // The bytes that are left where a block may start whose object has a base; 8, which is the end, where no object has it.
 pub(crate) fn edge_of(base: u32, len: usize) -> usize
@@ -23,14 +23,24 @@ pub(crate) fn edge_of(base: u32, len: usize) -> usize
     len - at + 8
 }
 
+// The alignment of an object's base.
+#[derive(Clone, Copy)]
+pub(crate) struct Alignment {
+    pub bytes: usize,
+    ghost some: { 0 < bytes },
+    ghost small: { bytes < 2 ^ 32 },
+}
+
 // The alignment that is sought, 1 where none is.
-pub(crate) fn unit_of(unit: u32) -> usize
-    ensures { (0 < result) × (result < 2 ^ 32) × ((unit ≢ 0) → result ≡ unit) }
+pub(crate) fn unit_of(unit: u32) -> Alignment
+    ensures { (unit ≢ 0) → result.bytes ≡ unit }
 {
     if unit == 0 {
-        return 1;
+        return Alignment { bytes: 1 };
     }
-    unit as usize
+    Alignment {
+        bytes: unit as usize,
+    }
 }
 
 // The bytes that are sought, more than any block has where none are.
@@ -53,49 +63,26 @@ pub(crate) fn fit_of(unit: u32, fit: usize, len: usize) -> usize
     fit
 }
 
-// Rule 4.3: whether a block is live, and a handle names its object.
-pub(crate) fn is_named(
-    base: u32,
-    length: u32,
-    serial: u32,
-    at: usize,
-    size: usize,
-    before: u32,
-) -> bool
-    requires { at + size ≤ 2 ^ 32 }
-    ensures { result ≡ holds_named (record { base = base; length = length; serial = serial }) (record { at = at; size = size; back = 0; serial = before }) }
+// Rule 4.3: whether a block is live, and the handle that was asked for names its object.
+pub(crate) fn is_named(wanted: Wanted, block: Met) -> bool
+    requires { block.at + block.size ≤ 2 ^ 32 }
+    ensures { result ≡ holds_named (handle_of wanted) block }
 {
-    if before == 0 {
+    if block.serial == 0 {
         return false;
     }
-    if serial != before {
+    if wanted.serial != block.serial {
         return false;
     }
-    if before == QUARANTINED {
+    if block.serial == QUARANTINED {
         return false;
     }
-    if length == 0 {
+    if wanted.length == 0 {
         return false;
     }
-    let from = base as usize;
-    if from < at + 8 {
+    let from = wanted.base as usize;
+    if from < block.at + 8 {
         return false;
     }
-    from + length as usize <= at + size
-}
-
-// A survey that refuses: whatever was asked for, nothing is found.
-pub(crate) fn refused(refusal: u32) -> Surveyed
-    ensures { result ≡ refused_survey refusal }
-{
-    Surveyed {
-        refusal: refusal,
-        low: HOLDS,
-        fit: 0,
-        found: false,
-        at: 0,
-        size: 0,
-        holder: HOLDS,
-        other: HOLDS,
-    }
+    from + wanted.length as usize <= block.at + block.size
 }

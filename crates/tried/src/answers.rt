@@ -1,10 +1,10 @@
 // Answers as numbers, so that the reply of an exported function and the answer of `perform` can be compared.
-use crate::comparing::same_handle;
 use crate::starting::handle;
 use model::{Answer, Handle, ListedBlock, Range, Refusal};
 
 // What any call gives; what it does not give is zero.
-#[derive(Clone, Copy)]
+// The refusal is a number, 0 where there is none: this is what the replies that C gets are compared by.
+#[derive(Clone, Copy, PartialEq, Eq)]
 pub(crate) struct Told {
     pub refusal: u32,
     pub handle: Handle,
@@ -109,26 +109,4 @@ pub(crate) fn numbers_of(answer: Answer) -> Told {
         Answer::Range(range) => of_range(range),
         Answer::Block(block) => of_block(block),
     }
-}
-
-pub(crate) fn same_told(one: Told, two: Told) -> bool {
-    if one.refusal != two.refusal {
-        return false;
-    }
-    if one.amount != two.amount {
-        return false;
-    }
-    if one.start != two.start {
-        return false;
-    }
-    if one.end != two.end {
-        return false;
-    }
-    if one.found != two.found {
-        return false;
-    }
-    if one.serial != two.serial {
-        return false;
-    }
-    same_handle(one.handle, two.handle)
 }

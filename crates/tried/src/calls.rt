@@ -1,8 +1,7 @@
 // The calls of a history, each as C makes it beside `perform`: both answer the same and leave the same bytes and
 // words. Each is made once where it is accepted and once where it is refused, on the state of `starting`; for refusal
 // 2 the size of its first block is spoiled.
-use crate::answers::{numbers_of, same_told};
-use crate::comparing::same_state;
+use crate::answers::numbers_of;
 use crate::performing;
 use crate::starting::{bytes, first, second, stale, start_for};
 use crate::telling::tell;
@@ -22,10 +21,10 @@ fn answers(call: Call, refusal: u32) -> bool {
     if given.refusal != refusal {
         return false;
     }
-    if !same_told(given, wanted) {
+    if given != wanted {
         return false;
     }
-    same_state(&heap, &words, &other, &others)
+    heap == other && words == others
 }
 
 // A call that is accepted and one that is refused.

@@ -1,6 +1,5 @@
 // Images as C writes, reads and asks for them, of a plain heap of 128 bytes: 5,120 bytes in form 2 and 1,536 in form
 // 1. What is written is compared with what `image` writes, and what is read with the state.
-use crate::comparing::same_state;
 use crate::starting::{bytes, plain_start, start};
 use crate::telling::tell;
 use image_model::ImageRefusal;
@@ -34,7 +33,7 @@ fn writes() -> bool {
     if reply.refusal != 0 || reply.length != 5120 {
         return false;
     }
-    wrote(answer, 5120) && check::same(&one, &two)
+    wrote(answer, 5120) && one == two
 }
 
 fn writes_form_1() -> bool {
@@ -48,7 +47,7 @@ fn writes_form_1() -> bool {
     if reply.refusal != 0 || reply.length != 1536 {
         return false;
     }
-    wrote(answer, 1536) && check::same(&one, &two)
+    wrote(answer, 1536) && one == two
 }
 
 // A buffer without room, which stays as it is: 25 each way.
@@ -62,7 +61,7 @@ fn finds_no_room() -> bool {
     if one.refusal != 25 || two.refusal != 25 {
         return false;
     }
-    check::same(&short, &[170u8; SHORT])
+    short == [170; SHORT]
 }
 
 // An image of the state, read into another heap.
@@ -75,7 +74,7 @@ fn resumes() -> bool {
     let mut other = bytes();
     let mut others = [4294967295u32; WORDS];
     let refusal = exports::lokhazim_raw_image_resume(&image, &mut other, &mut others);
-    refusal == 0 && same_state(&other, &others, &heap, &words)
+    refusal == 0 && other == heap && others == words
 }
 
 // One byte of the image is another: 22, the heap stays, and the accounts are zero.
@@ -89,7 +88,7 @@ fn resumes_no_spoiled() -> bool {
     let mut other = bytes();
     let mut others = [4294967295u32; WORDS];
     let refusal = exports::lokhazim_raw_image_resume(&image, &mut other, &mut others);
-    refusal == 22 && same_state(&other, &others, &bytes(), &[0u32; WORDS])
+    refusal == 22 && other == bytes() && others == [0; WORDS]
 }
 
 // Into a state in use: what it was is gone.
@@ -103,7 +102,7 @@ fn restores() -> bool {
     let mut others = [0u32; WORDS];
     start(&mut other, &mut others);
     let refusal = exports::lokhazim_raw_image_restore(&image, &mut other, &mut others);
-    refusal == 0 && same_state(&other, &others, &heap, &words)
+    refusal == 0 && other == heap && others == words
 }
 
 // One byte of the image is another: 22, and heap and accounts stay.
@@ -115,7 +114,7 @@ fn restores_no_spoiled() -> bool {
     let before = heap;
     let held = words;
     let refusal = exports::lokhazim_raw_image_restore(&image, &mut heap, &mut words);
-    refusal == 22 && same_state(&heap, &words, &before, &held)
+    refusal == 22 && heap == before && words == held
 }
 
 fn examines() -> bool {

@@ -1,7 +1,6 @@
 // `lend`, whose contract can't say what the heap holds beside the part that it lends: every byte and every word is
 // compared around it, where it lends and where it refuses, in place and by value. What is written through the part,
 // and nothing else, is in the heap afterwards.
-use crate::comparing::same_words;
 use crate::starting::{bytes, second, stale, start};
 use crate::telling::tell;
 use words::WORDS;
@@ -19,7 +18,7 @@ fn lends() -> bool {
     if !right || refusal != 0 {
         return false;
     }
-    check::same(&heap, &before) && same_words(&words, &held)
+    heap == before && words == held
 }
 
 // Nothing is lent, and nothing is written.
@@ -35,7 +34,7 @@ fn refuses() -> bool {
     if !empty || refusal != 5 {
         return false;
     }
-    check::same(&heap, &before) && same_words(&words, &held)
+    heap == before && words == held
 }
 
 // What is written through the part stands at its place.
@@ -51,7 +50,7 @@ fn is_written() -> bool {
         return false;
     }
     part[1] = 7;
-    check::same(&heap, &wanted)
+    heap == wanted
 }
 
 fn lends_by_value() -> bool {
@@ -70,7 +69,7 @@ fn lends_by_value() -> bool {
     if !right || refusal != 0 {
         return false;
     }
-    check::same(&heap, &before)
+    heap == before
 }
 
 fn refuses_by_value() -> bool {
@@ -84,7 +83,7 @@ fn refuses_by_value() -> bool {
     if !empty || refusal != 5 {
         return false;
     }
-    check::same(&heap, &before)
+    heap == before
 }
 
 fn is_written_by_value() -> bool {
@@ -104,7 +103,7 @@ fn is_written_by_value() -> bool {
         return false;
     }
     part[1] = 7;
-    check::same(&heap, &wanted)
+    heap == wanted
 }
 
 pub(crate) fn all() {

@@ -39,7 +39,7 @@ fn changed() -> [u8; 5120] {
 fn moves_up() -> bool {
     let mut out = [170u8; 5120];
     let reply = exports::lokhazim_image_move_up(&form_1(), &mut out);
-    reply.refusal == 0 && reply.length == 5120 && check::same(&out, &form_2())
+    reply.refusal == 0 && reply.length == 5120 && out == form_2()
 }
 
 fn moves_no_form_2_up() -> bool {
@@ -51,7 +51,7 @@ fn moves_no_form_2_up() -> bool {
 fn moves_down() -> bool {
     let mut out = [170u8; 1536];
     let reply = exports::lokhazim_image_move_down(&form_2(), &mut out);
-    reply.refusal == 0 && reply.length == 1536 && check::same(&out, &form_1())
+    reply.refusal == 0 && reply.length == 1536 && out == form_1()
 }
 
 fn moves_no_form_1_down() -> bool {

@@ -1,6 +1,5 @@
 // Open, as C calls it: a heap of an allowed length and one that is too short, over whatever bytes and words there
 // are.
-use crate::comparing::same_state;
 use crate::starting::{bytes, grants, quarantine};
 use crate::telling::tell;
 use exports::Grants;
@@ -25,7 +24,7 @@ fn opens() -> bool {
     let mut other = bytes();
     let mut others = used_words();
     let _ = heap::in_place::open(&mut other, &mut others, grants(), quarantine());
-    refusal == 0 && same_state(&heap, &words, &other, &others)
+    refusal == 0 && heap == other && words == others
 }
 
 // The heap stays, and all words are zero.
@@ -39,7 +38,7 @@ fn refuses() -> bool {
         1,
         0,
     );
-    refusal == 1 && same_state(&heap, &words, &[170u8; 63], &[0u32; WORDS])
+    refusal == 1 && heap == [170; 63] && words == [0; WORDS]
 }
 
 pub(crate) fn all() {

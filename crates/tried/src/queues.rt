@@ -1,9 +1,8 @@
 // Packet queues as C calls them. The words of a queue are its three numbers and the handles, three numbers each.
-use crate::comparing::{same_handle, same_state};
 use crate::starting::{bytes, first, handle, stale, start};
 use crate::telling::tell;
 use model::Handle;
-use queue::{PLACES, QUEUE_WORDS, Queue};
+use queue::{QUEUE_WORDS, Queue};
 use words::WORDS;
 
 // The words of a queue from 0 to 1 with this many handles, of which the first is given.
@@ -17,36 +16,14 @@ fn queue_words(count: u32, oldest: Handle) -> [u32; QUEUE_WORDS] {
     words
 }
 
-fn same_places(one: &[u32; QUEUE_WORDS], two: &[u32; QUEUE_WORDS]) -> bool {
-    let mut i = 0;
-    while i < QUEUE_WORDS {
-        if one[i] != two[i] {
-            return false;
-        }
-        i += 1;
-    }
-    true
-}
-
-// Every handle from a place on is this one.
-fn filled(handles: [Handle; PLACES], from: usize, wanted: Handle) -> bool {
-    let mut i = from;
-    while i < PLACES {
-        if !same_handle(handles[i], wanted) {
-            return false;
-        }
-        i += 1;
-    }
-    true
-}
-
 // A queue from 0 to 1 with this many handles; the first is given, and the others are zero.
 fn is_queue(queue: Queue, count: u32, oldest: Handle) -> bool {
     if queue.sender != 0 || queue.receiver != 1 || queue.count != count {
         return false;
     }
     let handles = queue.handles;
-    same_handle(handles[0], oldest) && filled(handles, 1, handle(0, 0, 0))
+    let none = handle(0, 0, 0);
+    handles[0] == oldest && handles[1..].iter().all(|it| *it == none)
 }
 
 fn makes() -> bool {
@@ -65,10 +42,10 @@ fn sends() -> bool {
     let refusal = exports::lokhazim_raw_queue_send(&mut heap, &mut words, &mut places, first());
     let _ = heap::in_place::claim(&other, &mut others, 1, first());
     let _ = heap::in_place::release(&mut other, &mut others, 0, first());
-    if refusal != 0 || !same_state(&heap, &words, &other, &others) {
+    if refusal != 0 || heap != other || words != others {
         return false;
     }
-    same_places(&places, &queue_words(1, first()))
+    places == queue_words(1, first())
 }
 
 // A handle that names nothing is not sent, and all stays.
@@ -80,27 +57,27 @@ fn sends_no_stale() -> bool {
     let held = words;
     let mut places = queue_words(3, first());
     let refusal = exports::lokhazim_raw_queue_send(&mut heap, &mut words, &mut places, stale());
-    if refusal != 5 || !same_places(&places, &queue_words(3, first())) {
+    if refusal != 5 || places != queue_words(3, first()) {
         return false;
     }
-    same_state(&heap, &words, &before, &held)
+    heap == before && words == held
 }
 
 // The one handle of a queue, and then none.
 fn receives() -> bool {
     let mut places = queue_words(1, first());
     let reply = exports::lokhazim_raw_queue_receive(&mut places);
-    if reply.refusal != 0 || !same_handle(reply.handle, first()) {
+    if reply.refusal != 0 || reply.handle != first() {
         return false;
     }
-    if !same_places(&places, &queue_words(0, handle(0, 0, 0))) {
+    if places != queue_words(0, handle(0, 0, 0)) {
         return false;
     }
     let none = exports::lokhazim_raw_queue_receive(&mut places);
-    if none.refusal != 52 || !same_handle(none.handle, handle(0, 0, 0)) {
+    if none.refusal != 52 || none.handle != handle(0, 0, 0) {
         return false;
     }
-    same_places(&places, &queue_words(0, handle(0, 0, 0)))
+    places == queue_words(0, handle(0, 0, 0))
 }
 
 pub(crate) fn all() {

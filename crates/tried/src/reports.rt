@@ -12,17 +12,6 @@ fn two_grants() -> [u32; QUOTAS] {
     grants
 }
 
-fn same_grants(one: [u32; QUOTAS], two: [u32; QUOTAS]) -> bool {
-    let mut i = 0;
-    while i < QUOTAS {
-        if one[i] != two[i] {
-            return false;
-        }
-        i += 1;
-    }
-    true
-}
-
 // What an import gives: the grants, the refusal and the line.
 fn is_import(reply: ImportReply, wanted: [u32; QUOTAS], refusal: u32, line: u32) -> bool {
     if reply.refusal != refusal || reply.line != line {
@@ -30,7 +19,7 @@ fn is_import(reply: ImportReply, wanted: [u32; QUOTAS], refusal: u32, line: u32)
     }
     let grants = reply.grants;
     let values = grants.values;
-    same_grants(values, wanted)
+    values == wanted
 }
 
 // A good line, one behind it that is too short, and a word that is not zero.
@@ -71,7 +60,7 @@ fn writes_lines() -> bool {
     if written.is_err() || reply.refusal != 0 || reply.length != 1728 {
         return false;
     }
-    check::same(&text, &other)
+    text == other
 }
 
 fn reads_back() -> bool {

@@ -55,7 +55,7 @@ fn adds() -> bool {
     if reply.refusal != 0 || reply.used != 10 {
         return false;
     }
-    if !check::same(&store, &[2, 0, 3, 2, 7, 8, 2, 1, 9, 0]) {
+    if store != [2, 0, 3, 2, 7, 8, 2, 1, 9, 0] {
         return false;
     }
     let mut kept = board();
@@ -66,7 +66,7 @@ fn adds() -> bool {
     if falls.refusal != 44 || long.refusal != 43 || full.refusal != 45 || cut.refusal != 41 {
         return false;
     }
-    check::same(&kept, &board()) && full.used == 0
+    kept == board() && full.used == 0
 }
 
 fn is_entry(reply: exports::EntryReply, version: u16, name: u8, start: usize, end: usize) -> bool {

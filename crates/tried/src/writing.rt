@@ -1,5 +1,4 @@
 // The write of a byte and the check, as C calls them: every byte and every word is looked at.
-use crate::comparing::same_words;
 use crate::starting::{bytes, first, stale, start};
 use crate::telling::tell;
 use words::WORDS;
@@ -16,13 +15,13 @@ fn writes() -> bool {
     if gone != 5 || behind != 0 {
         return false;
     }
-    if !check::same(&heap, &before) {
+    if heap != before {
         return false;
     }
     let refusal = exports::lokhazim_raw_write(&mut heap, &words, first(), 3, 9);
     let mut wanted = before;
     wanted[11] = 9;
-    refusal == 0 && check::same(&heap, &wanted) && same_words(&words, &held)
+    refusal == 0 && heap == wanted && words == held
 }
 
 // A state, and the same with the size of its first block spoiled.

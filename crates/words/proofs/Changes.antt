@@ -1,17 +1,16 @@
 -- The changes of the accounts by the words that are written for them.
-use Prim.Native.Nat.{ℕ, ◌+◌, ◌-◌, ◌*◌, ◌/◌, ◌%◌, ◌^◌, ◌≤◌, ◌<◌}
+use Prim.Native.Nat.{ℕ, ◌+◌, ◌*◌, ◌/◌, ◌%◌, ◌≤◌, ◌<◌}
 use mathlib.Core.Path.{◌≡◌, refl, ap, sym, ◌∙◌}
 use mathlib.Core.List.{List}
 use native.Mathlib.Omega.{arith}
-use borrow.Author.Tests.{le-ltb, lt-leb}
 use lib.ListN.{length, get_or, set}
 use lib.Seq.{get_or-set_same, get_or-set_other}
 use Rattle.accounts.specs.declared.Accounts.{Accounts}
 use Rattle.accounts.specs.declared.Quota.{Quota}
 use Rattle.accounts.specs.declared.Hold.{Hold}
-use Rattle.accounts.specs.Accounts.{QUOTAS, HOLDS, zero_quota, quota_at, put_quota, remaining, less_paid, paid_back, charged, refunded, charge, refund}
+use Rattle.accounts.specs.Accounts.{QUOTAS, HOLDS, zero_quota, quota_at, put_quota, change_quota, remaining}
 use Rattle.accounts.specs.Accounts.{with_remainder, without, left_permissions, clear_permissions, put_hold}
-use Rattle.accounts.proofs.Laws.{change_there, change_no_quota, change_same, charge_pays, refund_pays}
+use Rattle.accounts.proofs.Laws.{change_there, change_no_quota}
 use Rattle.words.specs.Words.{WORDS, grant_in, remainder_in}
 use Rattle.words.specs.Words.{spare_in, permissions_in, entry_in, rest_in, quotas_of, accounts_of, Padded}
 use Rattle.words.proofs.Words.{quotas_at}
@@ -23,49 +22,24 @@ use Rattle.words.proofs.Padding.{padded_same, padded_remainder, padded_spare, pa
 abbrev pub Changed : List ℕ → List ℕ → Accounts → Type 0
 Changed words words' k = (accounts_of words' ≡ k) × Padded words words'
 
--- paying
-charge_short : (q n : ℕ) (k : Accounts) → remaining q k < n → charge q n k ≡ k
-unfolding charge less_paid remaining
-charge_short q n k l = change_same q (charged n) k (rw (lt-leb n (remaining q k) l) refl)
+-- another remainder
+module _ (words : List ℕ) (q : ℕ) (f : ℕ → ℕ) where
+  abbrev of_remainder : Quota → Quota
+  of_remainder x = with_remainder (f x.remainder) x
 
-refund_over : (q n : ℕ) (k : Accounts) → 2 ^ 32 ≤ remaining q k + n → refund q n k ≡ k
-unfolding refund paid_back remaining
-refund_over q n k l = change_same q (refunded n) k (rw (le-ltb (remaining q k + n) (2 ^ 32) l) refl)
+  pub remainder_none : QUOTAS ≤ q → Changed words words (change_quota q of_remainder (accounts_of words))
+  remainder_none h = (sym (change_no_quota q of_remainder (accounts_of words) h), padded_same words)
 
-module _ (words : List ℕ) (q n : ℕ) where
-  pub charges_none : QUOTAS ≤ q → Changed words words (charge q n (accounts_of words))
-  unfolding charge
-  charges_none h = (sym (change_no_quota q (charged n) (accounts_of words) h), padded_same words)
-
-  pub refunds_none : QUOTAS ≤ q → Changed words words (refund q n (accounts_of words))
-  unfolding refund
-  refunds_none h = (sym (change_no_quota q (refunded n) (accounts_of words) h), padded_same words)
-
-  module _ (few : q < QUOTAS) where
-    pub charges_short : remainder_in words q < n → Changed words words (charge q n (accounts_of words))
-    charges_short l = (sym (charge_short q n (accounts_of words) (omega (arith, remaining_is words q few))), padded_same words)
-
-    pub refunds_over : 2 ^ 32 ≤ remainder_in words q + n → Changed words words (refund q n (accounts_of words))
-    refunds_over l = (sym (refund_over q n (accounts_of words) (omega (arith, remaining_is words q few))), padded_same words)
-
-    module _ (long : length words ≡ WORDS) where
-      pub charges : n ≤ remainder_in words q → Changed words (set words (3 * q + 1) (remainder_in words q - n)) (charge q n (accounts_of words))
-      charges l =
-          let e = remaining_is words q few in (
-            put_remainder words long q (remainder_in words q - n) few
-                ∙ ap (λ (x : ℕ). put_quota q (with_remainder (x - n) (quota_at q (accounts_of words))) (accounts_of words)) e
-                ∙ sym (charge_pays q n (accounts_of words) few (omega arith)),
-            padded_remainder words q (remainder_in words q - n) few,
-          )
-
-      pub refunds : remainder_in words q + n < 2 ^ 32 → Changed words (set words (3 * q + 1) (remainder_in words q + n)) (refund q n (accounts_of words))
-      refunds l =
-          let e = remaining_is words q few in (
-            put_remainder words long q (remainder_in words q + n) few
-                ∙ ap (λ (x : ℕ). put_quota q (with_remainder (x + n) (quota_at q (accounts_of words))) (accounts_of words)) e
-                ∙ sym (refund_pays q n (accounts_of words) few (omega arith)),
-            padded_remainder words q (remainder_in words q + n) few,
-          )
+  pub remainder_made : q < QUOTAS → length words ≡ WORDS → (r : ℕ) → r ≡ f (remainder_in words q)
+      → Changed words (set words (3 * q + 1) r) (change_quota q of_remainder (accounts_of words))
+  unfolding remaining
+  remainder_made few long r e =
+      let is : r ≡ f (remaining q (accounts_of words)) = e ∙ ap f (remaining_is words q few) in (
+        put_remainder words long q r few
+            ∙ ap (λ (x : ℕ). put_quota q (with_remainder x (quota_at q (accounts_of words))) (accounts_of words)) is
+            ∙ sym (change_there q of_remainder (accounts_of words) few),
+        padded_remainder words q r few,
+      )
 
 -- permissions
 pub low_byte : (h b : ℕ) → b < 256 → ((256 * h + b) % 256 ≡ b) × ((256 * h + b) / 256 ≡ h)

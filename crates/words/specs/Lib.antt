@@ -3,3 +3,4 @@ pub mod Words
 pub mod Emptying
 pub mod Opening
 pub mod Filling
+pub mod Changing

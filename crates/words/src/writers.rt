@@ -1,27 +1,37 @@
 // Changes of the accounts that some words hold.
 ghost use Rattle.std.specs.Prelude.{◌≡◌, ◌<◌};
-ghost use Rattle.accounts.specs.Accounts.{charge, refund, clear_permissions, with_last_serial, put_hold, drop_hold};
+ghost use Rattle.accounts.specs.Accounts.{less_paid, paid_back, charge, refund, clear_permissions, with_last_serial, put_hold, drop_hold};
 ghost use Rattle.words.specs.Words.{accounts_of, Padded};
+ghost use Rattle.words.specs.Changing.{Makes};
 
 use crate::readers::{left_permissions, word_at};
 use crate::{FIRST, LAST, WORDS};
-use accounts::{GREATEST_NUMBER, HOLDS, Hold, QUOTAS};
+use accounts::{HOLDS, Hold, QUOTAS};
 
-// A charge and a refund differ in the test and in the new remainder; a function for both would take two closures, which is no plainer.
-// The quota pays; where there is no such quota, or it has less than that, nothing changes.
-pub fn charge(words: &mut [u32; WORDS], quota: u32, amount: u32)
-    ensures holds { accounts_of words.new ≡ charge quota amount (accounts_of words.old) }
-    ensures pads { Padded words.old words.new }
+// The remainder of a quota is what the function makes of it; where there is no such quota, nothing changes.
+fn change_remainder<F: FnOnce(u32) -> u32>(words: &mut [u32; WORDS], quota: u32, change: F)
+    requires { F.IsAlwaysCallable change }
+    ensures { Makes (F.post change) quota words.old words.new }
 {
     let q = quota as usize;
     if QUOTAS <= q {
         return;
     }
-    let remainder = word_at(words, 3 * q + 1);
-    if remainder < amount {
-        return;
-    }
-    words[3 * q + 1] = remainder - amount;
+    words[3 * q + 1] = change(word_at(words, 3 * q + 1));
+}
+
+// The quota pays; where there is no such quota, or it has less than that, nothing changes.
+pub fn charge(words: &mut [u32; WORDS], quota: u32, amount: u32)
+    ensures holds { accounts_of words.new ≡ charge quota amount (accounts_of words.old) }
+    ensures pads { Padded words.old words.new }
+{
+    change_remainder(
+        words,
+        quota,
+        |remainder|
+            ensures { result ≡ less_paid amount remainder }
+        { remainder.checked_sub(amount).unwrap_or(remainder) },
+    );
 }
 
 // The quota is paid back; where there is no such quota, or the sum needs more than 32 bits, nothing changes.
@@ -29,15 +39,13 @@ pub fn refund(words: &mut [u32; WORDS], quota: u32, amount: u32)
     ensures holds { accounts_of words.new ≡ refund quota amount (accounts_of words.old) }
     ensures pads { Padded words.old words.new }
 {
-    let q = quota as usize;
-    if QUOTAS <= q {
-        return;
-    }
-    let remainder = word_at(words, 3 * q + 1);
-    if GREATEST_NUMBER - amount < remainder {
-        return;
-    }
-    words[3 * q + 1] = remainder + amount;
+    change_remainder(
+        words,
+        quota,
+        |remainder|
+            ensures { result ≡ paid_back amount remainder }
+        { remainder.checked_add(amount).unwrap_or(remainder) },
+    );
 }
 
 // The quota's permissions are cleared by the bits of a number; where there is no such quota, nothing changes.

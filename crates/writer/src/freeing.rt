@@ -112,7 +112,7 @@ fn is_inside(heap: &[u8], block: Met) -> bool
 }
 
 // Rules 8.18 and 22.3, what becomes of a live block that nobody holds: in a plain heap it is free and joins, else it
-// waits. The end of the block that this makes is given.
+// waits. The end of the block that this makes is given. The kind is a number: C lends any byte as one.
 fn make_vacant(heap: &mut [u8], block: Met, kind: u8) -> usize
     requires { Inside block heap.old }
     ensures leaves { heap.new ≡ vacate_block kind block heap.old }
@@ -127,7 +127,8 @@ fn make_vacant(heap: &mut [u8], block: Met, kind: u8) -> usize
     at + size
 }
 
-// The same; nothing is written, and 0 is given, where the block does not lie in the heap.
+// The same; nothing is written, and 0 is given, where the block does not lie in the heap. The kind is a number: C lends any
+// byte as one.
 pub fn vacate_block(heap: &mut [u8], block: Met, kind: u8) -> usize
     ensures leaves { heap.new ≡ vacate_in kind block heap.old }
     ensures ends { result ≡ vacate_end_in kind block heap.old }
@@ -138,7 +139,8 @@ pub fn vacate_block(heap: &mut [u8], block: Met, kind: u8) -> usize
     make_vacant(heap, block, kind)
 }
 
-// Rule 22.6: a quarantined block becomes free with the bytes that it has, and joins its free neighbours; the end of the free block that this makes is given.
+// Rule 22.6: a quarantined block becomes free with the bytes that it has, and joins its free neighbours; the end of the free
+// block that this makes is given. It shares `room_at` and `join_neighbours` with `make_free`, and its one write is another.
 fn make_unquarantined(heap: &mut [u8], block: Met) -> usize
     requires { Inside block heap.old }
     ensures frees { heap.new ≡ unquarantine_block block heap.old }

@@ -17,7 +17,7 @@ pub fn allocate(heap: &mut [u8], accounts: Accounts, quota: u32, length: u32) ->
     HandleResult::of(&words, answer)
 }
 
-// Rule 8.12: a new object for `count` elements of `size` bytes.
+// Rule 8.12: a new object for `count` elements of `size` bytes. The count is one that is asked for, and no buffer's length.
 pub fn allocate_array(
     heap: &mut [u8],
     accounts: Accounts,

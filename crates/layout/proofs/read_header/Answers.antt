@@ -7,8 +7,8 @@ pub returns : goal.returns
 returns c =
     let start = c in
     let a = start.args in
-    let p = c.read_pair.ensures in (
-      (λ i. record { size = p.0 i; back = c.read_pair-2.ensures.0 i; serial = c.read_quad.ensures i })
+    let p = c.read_inside.ensures in (
+      (λ i. record { size = p.0 i; back = c.read_inside-2.ensures.0 i; serial = c.read_inside-3.ensures.0 i })
           ∙ read_three a.at a.heap.now start.requires,
       p.1,
     )

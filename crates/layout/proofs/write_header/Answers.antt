@@ -28,6 +28,6 @@ returns c =
     let a = test.args in
     let h = a.header in
     let l = room (goal.at.returns c).Else-not-ends_by in
-    third.write_quad.ensures
-    ∙ ap (write_number 4 (a.at + 4) h.serial) (second.write_pair-2.ensures ∙ ap (write_number 2 (a.at + 2) h.back) first.write_pair.ensures)
+    third.write_inside-3.ensures
+    ∙ ap (write_number 4 (a.at + 4) h.serial) (second.write_inside-2.ensures ∙ ap (write_number 2 (a.at + 2) h.back) first.write_inside.ensures)
     ∙ write_three a.at h a.heap.now (omega arith)

@@ -16,7 +16,7 @@ use Rattle.model.specs.Refusals.{first_refusal, row_lines}
 use Rattle.results.proofs.Lines.{check_refuses, check_accepts, check_accounted}
 use Rattle.survey.proofs.Surveys.{allowed_range}
 use Rattle.statistics.specs.declared.tallying.Tally.{Tally}
-use Rattle.statistics.specs.Statistics.{heap_statistics, counted, fragmented, no_statistics}
+use Rattle.statistics.specs.Statistics.{heap_statistics, counted, fragmented}
 use Rattle.statistics.specs.Tallies.{tally_of, most_units, reach}
 use Rattle.statistics.proofs.Units.{u8, u16, u32, u64}
 use Rattle.statistics.proofs.Counts.{free_count, live_count, quarantined_count, largest_count}
@@ -36,7 +36,7 @@ returns-in-Err c =
     let k = accounts_of w in
     let u = table (edition_of w) in
     let r = x in
-    c.no_statistics.ensures ∙ ap no_statistics n.number.ensures
+    c.no_statistics.ensures
     ∙ statistics_refused _ (counted u s k) r.in-Err.refusal (check_refuses u s k e.check.result e.check.ensures [] r.in-Err.refusal r.in-Err.is)
 
 abbrev accounts : In_default → Accounts

@@ -9,7 +9,7 @@ use Rattle.words.proofs.Readings.{quota_is}
 use Rattle.model.specs.Refusals.{first_refusal, line_3, row_lines}
 use Rattle.model.specs.declared.Refusal.TheVariants.{QuotaNumber}
 use Rattle.results.proofs.Lines.{check_refuses, check_accepts, check_accounted, line_3_refuses, line_3_passes}
-use Rattle.statistics.specs.Statistics.{quota_statistics, quota_counted, no_quota_statistics}
+use Rattle.statistics.specs.Statistics.{quota_statistics, quota_counted}
 use Rattle.statistics.proofs.Laws.{quota_refused, quota_accepted, held_all}
 use Rattle.statistics.proofs.quota_statistics.Goals as goal
 
@@ -25,7 +25,7 @@ returns-in-Err c =
     let k = accounts_of w in
     let u = table (edition_of w) in
     let r = x in
-    c.no_quota_statistics.ensures ∙ ap no_quota_statistics n.number.ensures
+    c.no_quota_statistics.ensures
     ∙ quota_refused _ (quota_counted k a.quota) r.in-Err.refusal
     (check_refuses u s k e.check.result e.check.ensures (line_3 a.quota ∷ []) r.in-Err.refusal r.in-Err.is)
 
@@ -41,7 +41,7 @@ returns-then-quota-ge-QUOTAS c =
     let w = a.words.now in
     let k = accounts_of w in
     let u = table (edition_of w) in
-    c.no_quota_statistics-then-quota-ge-QUOTAS.ensures ∙ ap no_quota_statistics n.number-then-quota-ge-QUOTAS.ensures
+    c.no_quota_statistics-then-quota-ge-QUOTAS.ensures
     ∙ quota_refused _ (quota_counted k a.quota) QuotaNumber
     (check_accepts u s k e.check.result e.check.ensures (line_3 a.quota ∷ []) o.in_default.is
     ∙ line_3_refuses a.quota [] i.if-quota-ge-QUOTAS.true)

@@ -1,5 +1,5 @@
--- `survey::begin` meets its contract: numbers that are not in range, a record that is not well-formed or a quota that is not solvent are refused with whatever
--- heap.
+-- `survey::begin` meets its contract: numbers that are not in range, a record that is not well-formed or a quota that
+-- is not solvent are refused with whatever heap.
 use Rattle.std.proofs.Common.{rules}
 use Rattle.rounding.specs.Rounding.{table}
 use Rattle.words.specs.Words.{edition_of, accounts_of}
@@ -14,11 +14,11 @@ returns-in_err-numbers c =
     let f : Refuses w = λ s a. verdict_range (table (edition_of w)) s (accounts_of w) a c.in_err-numbers.ensures in
     search rules
 
-pub returns-in_err-tally : goal.returns-in_err-tally
-returns-in_err-tally c =
+pub returns-in_err-low : goal.returns-in_err-low
+returns-in_err-low c =
     let w = c.args.words.now in
     let f : Refuses w =
-    λ s a. verdict_ill (table (edition_of w)) s (accounts_of w) a c.in_ok-numbers.ensures.0 (quotas_long w) c.in_err-tally.ensures in
+    λ s a. verdict_ill (table (edition_of w)) s (accounts_of w) a c.in_ok-numbers.ensures.0 (quotas_long w) c.in_err-low.ensures in
     search rules
 
 pub returns-then-not-owing : goal.returns-then-not-owing

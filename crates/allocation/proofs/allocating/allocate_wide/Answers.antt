@@ -1,5 +1,6 @@
 -- `allocation::allocate_wide` meets its contract: the first lines of allocate refuse, or `grant` gives the definition's outcome.
-use mathlib.Core.Path.{refl, ap}
+use Prim.Native.Nat.{ℕ}
+use mathlib.Core.Path.{refl, ap, sym, subst}
 use Rattle.std.proofs.lemmas.Result.{err_from_is_err_and}
 use Rattle.rounding.specs.Rounding.{table}
 use Rattle.words.specs.Words.{accounts_of}
@@ -31,13 +32,14 @@ requested c =
 
 pub grant-requires : goal.grant-requires
 grant-requires c =
+    let a = c.args in
+    let w = c.request-wanted in
     let n = c.in_ok-known in
     let x = c.survey-surveyed.ensures.known n.known (c.admitted.ensures.accepts n.known n.was).0 in
     record {
-      requested = (requested (goal.at.grant-requires c).In_ok-known).1;
+      requested =
+          subst (λ (q : ℕ). Requested a.heap.now (accounts_of a.words.now) q w.result.need w.result.unit) (sym w.ensures.quota)
+          (requested (goal.at.grant-requires c).In_ok-known).1;
       lowest = ap (λ (y : Known). y.low) x;
       room = ap (λ (y : Known). y.fit) x;
     }
-
-pub returns-clause-holds : goal.returns-clause-holds
-returns-clause-holds c = c.grant.ensures.holds c.args.length (requested (goal.at.returns-clause-holds c).In_ok-known).0

@@ -52,18 +52,18 @@ returns-clause-holds c n d =
     let b = c.in-Some-fit in
     let at = c.in-Some.place in
     let serial = ap (λ (t : ℕ). t + 1) c.last_serial-last.ensures in
-    let booked = c.book.ensures.holds ∙ (λ j. booked_at a.quota a.size at (serial j) k) in
-    let answer = c.given.ensures ∙ (λ j. Ok (record { base = b.base; length = a.size; serial = serial j })) in
-    let done : handle_result c.book.new.words c.given.result ≡ result_of a.quota a.size at b.base k =
+    let booked = c.book.ensures.holds ∙ (λ j. booked_at a.wanted.quota a.wanted.need at (serial j) k) in
+    let answer = c.given.ensures ∙ (λ j. Ok (record { base = b.base; length = a.wanted.need; serial = serial j })) in
+    let done : handle_result c.book.new.words c.given.result ≡ result_of a.wanted.quota a.wanted.need at b.base k =
     (λ j. record { accounts = booked j; answer = answer j }) in
     made c.requires d _ (omega (arith, c.if-remaining-charge.false, c.remaining.ensures)) at c.in-Some.is
     (omega (arith, c.if-last-ge-GREATEST_SERIAL.false, c.last_serial-last.ensures)) (octets (goal.at.returns-clause-holds c).After-slice_known-1)
     b.block b.base b.is c.carve.new.heap
-    (c.carve.ensures ∙ ap (λ (t : ℕ). carve_in b.block b.base a.size t a.heap.now) serial) done
+    (c.carve.ensures ∙ ap (λ (t : ℕ). carve_in b.block b.base a.wanted.need t a.heap.now) serial) done
 
 pub returns-clause-keeps : goal.returns-clause-keeps
 returns-clause-keeps c t l =
     let a = c.args in
     let x = c.last_serial-last in
-    shares_kept t a.quota a.size c.in-Some.place (x.result + 1) (accounts_of a.words.now) (accounts_of c.book.new.words)
+    shares_kept t a.wanted.quota a.wanted.need c.in-Some.place (x.result + 1) (accounts_of a.words.now) (accounts_of c.book.new.words)
     (sym c.requires.lowest ∙ c.in-Some.is) (λ e. omega (arith, e, l, x.ensures)) c.book.ensures.holds

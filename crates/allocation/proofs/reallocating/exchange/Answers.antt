@@ -8,7 +8,7 @@ use Rattle.layout.specs.Bytes.{Octets, copy_part}
 use Rattle.model.specs.Answers.{handle_values}
 use Rattle.results.specs.Results.{amount_result, handle_result}
 use Rattle.allocation.proofs.Typed.{limits_of}
-use Rattle.allocation.proofs.Exchanges.{grantable, unfound, located_old, not_whole, not_held, serial_given}
+use Rattle.allocation.proofs.Exchanges.{unfound, located_old, not_whole, not_held, serial_given}
 use Rattle.allocation.proofs.Exchanges.{not_granted, droppable, exchanged}
 use Rattle.allocation.proofs.reallocating.exchange.Goals as goal
 use Rattle.allocation.proofs.reallocating.exchange.Goals.{After-copy_part, After-slice_known-1}
@@ -29,9 +29,6 @@ returns-then-wanted-length-clause-holds c n d = not_whole c.requires c.in-Some.b
 pub returns-in_default-holder-clause-holds : goal.returns-in_default-holder-clause-holds
 returns-in_default-holder-clause-holds c n d =
     not_held c.requires c.in-Some.block c.in-Some.is c.if-wanted-length.false c.in_default-holder.is d _ refl
-
-pub grant-granted-requires : goal.grant-granted-requires
-grant-granted-requires c = grantable c.requires
 
 pub returns-in_default-granted-clause-holds : goal.returns-in_default-granted-clause-holds
 returns-in_default-granted-clause-holds c n d =
@@ -62,12 +59,8 @@ drop_claim-requires c =
     let l = limits_of a.heap.now a.words.now a.wanted.quota y.requested.checked c.count.ensures.1 in
     let d = y.requested.rounded in
     let same = g.ensures.keeps b.block.serial (serial_given y b.block b.is c.if-wanted-length.false p.place p.is) in
-    rw c.is_some.ensures
-    (droppable y b.block b.is c.if-wanted-length.false p.place p.is (octets (goal.at.drop_claim-requires c).After-slice_known-1) l d g.new.heap
-    (handle_result g.new.words g.result) (g.ensures.holds _ d) c.in-Ok.new c.in-Ok.is _ (copied (goal.at.drop_claim-requires c).After-copy_part) same)
-
-pub shape_of-heap : goal.shape_of-heap
-shape_of-heap c = c.heap-3-1.given ∙ c.heap-2-1.given ∙ c.heap-1.given
+    droppable y b.block b.is c.if-wanted-length.false p.place p.is (octets (goal.at.drop_claim-requires c).After-slice_known-1) l d g.new.heap
+    (handle_result g.new.words g.result) (g.ensures.holds _ d) c.in-Ok.new c.in-Ok.is _ (copied (goal.at.drop_claim-requires c).After-copy_part) same
 
 pub returns-clause-holds : goal.returns-clause-holds
 unfolding handle_values

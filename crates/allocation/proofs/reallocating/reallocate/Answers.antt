@@ -1,10 +1,9 @@
 -- `allocation::reallocate` meets its contract: the first lines of reallocate refuse, or `exchange` gives the definition's outcome.
 use Prim.Native.Nat.{ℕ}
-use mathlib.Core.Path.{refl, sym, subst, ◌∙◌}
+use mathlib.Core.Path.{refl, sym, subst}
 use Rattle.std.proofs.lemmas.Result.{err_from_is_err_and}
 use Rattle.rounding.specs.Rounding.{table}
 use Rattle.words.specs.Words.{accounts_of}
-use Rattle.model.specs.Calls.{reallocate}
 use Rattle.model.specs.Refusals.{row_lines}
 use Rattle.allocation.specs.Asked.{Rounded, Requested}
 use Rattle.allocation.proofs.Grants.{requested_by}
@@ -41,11 +40,3 @@ exchange-requires c =
           (requested (goal.at.exchange-requires c).In_ok-known).1;
       known = c.survey-surveyed.ensures.known n.known (c.admitted.ensures.accepts n.known n.was).0;
     }
-
-pub returns-clause-holds : goal.returns-clause-holds
-returns-clause-holds c =
-    let a = c.args in
-    let k = accounts_of a.words.now in
-    let w = c.request-wanted.ensures in
-    c.exchange.ensures.holds a.length (requested (goal.at.returns-clause-holds c).In_ok-known).0
-    ∙ (λ i. reallocate (table k.edition) a.heap.now k (w.quota i) (w.handle i) a.length)

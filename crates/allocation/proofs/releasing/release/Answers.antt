@@ -1,6 +1,6 @@
 -- `allocation::release` meets its contract: the survey, the quota's number, the object and the quota's record are the lines of release, and past them the hold
 -- that is dropped is the definition's.
-use mathlib.Core.Path.{refl, ap, ◌∙◌}
+use mathlib.Core.Path.{refl, ◌∙◌}
 use Rattle.std.proofs.lemmas.Result.{err_from_is_err_and}
 use Rattle.words.specs.Words.{accounts_of}
 use Rattle.allocation.proofs.Releases.{released_checked, released_numbered, released_missed, released_unheld, released_droppable, released_is}
@@ -31,16 +31,15 @@ returns-in_default-holder-clause-holds c =
     released_unheld a.heap.now (accounts_of a.words.now) a.quota a.handle c.asked.result c.survey.result c.asked.ensures c.survey.ensures
     c.in_ok-known.known c.in_ok-known.was c.if-quota-ge-QUOTAS.false c.in-Some.block c.in-Some.is c.in_default-holder.is _ refl
 
-pub drop_claim-requires : goal.drop_claim-requires
-drop_claim-requires c =
+pub drop_claim-back-requires : goal.drop_claim-back-requires
+drop_claim-back-requires c =
     let a = c.args in
-    rw c.is_some-shared.ensures
-    (released_droppable a.heap.now (accounts_of a.words.now) a.quota a.handle c.asked.result c.survey.result c.asked.ensures c.survey.ensures
-    c.in_ok-known.known c.in_ok-known.was c.if-quota-ge-QUOTAS.false c.in-Some.block c.in-Some.is c.in-Some-holder.place c.in-Some-holder.is)
+    released_droppable a.heap.now (accounts_of a.words.now) a.quota a.handle c.asked.result c.survey.result c.asked.ensures c.survey.ensures
+    c.in_ok-known.known c.in_ok-known.was c.if-quota-ge-QUOTAS.false c.in-Some.block c.in-Some.is c.in-Some-holder.place c.in-Some-holder.is
 
 pub returns-clause-holds : goal.returns-clause-holds
 returns-clause-holds c =
     let a = c.args in
-    c.drop_claim.ensures.holds
+    c.drop_claim-back.ensures.holds
     ∙ released_is a.heap.now (accounts_of a.words.now) a.quota a.handle c.asked.result c.survey.result c.asked.ensures c.survey.ensures
     c.in_ok-known.known c.in_ok-known.was c.if-quota-ge-QUOTAS.false c.in-Some.block c.in-Some.is c.in-Some-holder.place c.in-Some-holder.is

@@ -1,10 +1,8 @@
 -- `allocation::request` meets its contract: a length that is not allowed asks for no room.
 use native.Mathlib.Omega.{arith}
-use mathlib.Core.Path.{◌≡◌, refl, ap}
+use mathlib.Core.Path.{◌≡◌, refl}
 use Rattle.rounding.specs.Rounding.{table, object_length}
 use Rattle.rounding.proofs.Editions.{within_heap}
-use Rattle.survey.specs.declared.Wanted.{Wanted}
-use Rattle.survey.specs.Survey.{handle_of}
 use Rattle.allocation.proofs.Grants.{unit_is}
 use Rattle.allocation.proofs.requests.request.Goals as goal
 use Rattle.allocation.proofs.requests.request.Goals.{After-object_length-size}
@@ -15,24 +13,6 @@ sized : (c : After-object_length-size) →
     let a = start.args in
     c.object_length-size.result ≡ object_length (table a.edition) a.length
 sized c = c.object_length-size.ensures
-
-pub returns-then-length-eq0 : goal.returns-then-length-eq0
-returns-then-length-eq0 c =
-    let then1 = c in
-    record {
-      handle = ap (λ (x : Wanted). handle_of x) c.asked.ensures;
-      quota = ap (λ (x : Wanted). x.quota) c.asked.ensures;
-      rounded = λ z l. absurd (omega (arith, z, then1.if-length-eq0.true));
-    }
-
-pub returns-then-length-gt-LONGEST : goal.returns-then-length-gt-LONGEST
-returns-then-length-gt-LONGEST c =
-    let then2 = c in
-    record {
-      handle = ap (λ (x : Wanted). handle_of x) c.asked-then-length-gt-LONGEST.ensures;
-      quota = ap (λ (x : Wanted). x.quota) c.asked-then-length-gt-LONGEST.ensures;
-      rounded = λ z l. absurd (omega (arith, l, then2.if-length-gt-LONGEST.true));
-    }
 
 pub overflow_cast-size : goal.overflow_cast-size
 overflow_cast-size c =

@@ -1,12 +1,15 @@
 -- An image of the other form, one that its own bytes refuse, and one whose state is written (`Steps`).
 use mathlib.Core.Path.{◌≡◌, ap, sym, ◌∙◌}
+use borrow.Author.Rules.{rules}
+use Rattle.std.specs.Prelude.{Err}
 use Rattle.image_model.specs.declared.Form.{Form}
+use Rattle.image_model.specs.Answers.{imaged}
 use Rattle.image_model.specs.Reading.{form_of}
 use Rattle.image.proofs.Parses.{Found, image_found, refused_found, found_allowed}
 use Rattle.conversion.specs.Steps.{form_from, form_to, other_form}
 use Rattle.conversion.proofs.Steps.{own_refusal, move_other, move_refused, move_rewritten}
 use Rattle.conversion.proofs.moving.moved.Goals as goal
-use Rattle.conversion.proofs.moving.moved.Goals.{Else-form-number_from, In-Ok}
+use Rattle.conversion.proofs.moving.moved.Goals.{Else-form-number_from, In_ok-size}
 
 pub returns-then-form-number_from : goal.returns-then-form-number_from
 returns-then-form-number_from c =
@@ -29,31 +32,26 @@ of-form c =
     sym (ap (λ (x : Form). x.number) n.form_of-form.ensures) ∙ c.if-form-number_from.false ∙ n.number_from.ensures
 
 -- what the image was found to be
-found : (c : In-Ok)
-    → Found c.args.image.now c.in-Ok.field-0-0
-    c.in-Ok.size c.parse_image-parsed.result.accounts
+found : (c : In_ok-size)
+    → Found c.args.image.now c.in_ok-size.field-0-0 c.in_ok-size.size c.parse_image-parsed.result.accounts
 found c =
-    let p = c in
-    image_found p.args.image.now p.parse_image-parsed.result c.in-Ok.field-0-0 c.in-Ok.size
-    p.parse_image-parsed.ensures c.in-Ok.is
+    image_found c.args.image.now c.parse_image-parsed.result c.in_ok-size.field-0-0 c.in_ok-size.size
+    c.parse_image-parsed.ensures c.in_ok-size.was
 
 pub rewrite-requires : goal.rewrite-requires
-rewrite-requires c = found_allowed _ _ _ _ (found (goal.at.rewrite-requires c).In-Ok)
+rewrite-requires c = found_allowed _ _ _ _ (found (goal.at.rewrite-requires c).In_ok-size)
 
-pub returns-in-Ok : goal.returns-in-Ok
-returns-in-Ok c =
-    let r = c in
-    let s = r in
-    let l = s in
-    let a = l.args in
-    r.rewrite.ensures ∙ move_rewritten (form_from a.way) (form_to a.way) a.image.now a.out.now (of-form (goal.at.returns-in-Ok c).Else-form-number_from) _ _ _
-    (found (goal.at.returns-in-Ok c).In-Ok)
+pub returns : goal.returns
+returns c =
+    let a = c.args in
+    c.rewrite.ensures ∙ move_rewritten (form_from a.way) (form_to a.way) a.image.now a.out.now (of-form (goal.at.returns c).Else-form-number_from) _ _ _
+    (found (goal.at.returns c).In_ok-size)
 
-pub returns-in-Err : goal.returns-in-Err
-returns-in-Err c =
-    let s = c in
-    let l = s in
-    let p = l in
-    let a = p.args in
-    move_refused (form_from a.way) (form_to a.way) a.image.now a.out.now (of-form (goal.at.returns-in-Err c).Else-form-number_from) s.in-Err.refusal
-    (refused_found a.image.now p.parse_image-parsed.result s.in-Err.refusal p.parse_image-parsed.ensures s.in-Err.is)
+pub returns-in_err-size : goal.returns-in_err-size
+returns-in_err-size c =
+    let a = c.args in
+    let r = c.in_err-size.field-0.0 in
+    let e : c.from_residual.result ≡ Err r = search rules in
+    ap (imaged a.out.now) e ∙ move_refused (form_from a.way) (form_to a.way) a.image.now a.out.now
+    (of-form (goal.at.returns-in_err-size c).Else-form-number_from) r
+    (refused_found a.image.now c.parse_image-parsed.result r c.parse_image-parsed.ensures c.in_err-size.was)

@@ -15,7 +15,7 @@ returns-in-Ok-Some c =
     let e : c.args.answer ≡ Ok (Some c.in-Ok-Some.difference) = search rules in
     let p = c in
     let k = p in
-    (λ i. record { refusal = 0; which = 0; kind = k.kind_of.ensures i; place = p.place_of.ensures i; length = c.length_of.ensures i })
+    (λ i. record { refusal = 0; which = 0; kind = k.told.ensures i; place = p.place_of.ensures i; length = c.length_of.ensures i })
     ∙ ap (λ (x : Result (Option Difference) (ImageRefusal × Which)). compare_reply (compared x)) (sym e)
 
 pub returns-in-Ok-None : goal.returns-in-Ok-None
@@ -28,5 +28,5 @@ pub returns-in-Err : goal.returns-in-Err
 unfolding compared
 returns-in-Err c =
     let n = c in
-    (λ i. record { refusal = n.number.ensures i; which = c.number_of_which.ensures i; kind = 0; place = 0; length = 0 })
+    (λ i. record { refusal = n.number.ensures i; which = c.told-in-Err.ensures i; kind = 0; place = 0; length = 0 })
     ∙ ap (λ (x : Result (Option Difference) (ImageRefusal × Which)). compare_reply (compared x)) (sym n.in-Err.is)

@@ -22,10 +22,10 @@ returns-in-Ok-Some c =
     record {
       refusal = 0;
       which = 0;
-      kind = k.kind_of.ensures i;
+      kind = k.told.ensures i;
       place = p.place_of.ensures i;
       length = n.length_of.ensures i;
-      part = q.part_of.ensures i;
+      part = q.told-in-Ok-Some.ensures i;
       at = c.place_in.ensures i;
     })
     ∙ ap (λ (x : Result (Option (Difference × Position)) (ImageRefusal × Which)). next_reply (advanced x)) (sym e)
@@ -43,7 +43,7 @@ returns-in-Err c =
     (λ i.
     record {
       refusal = n.number.ensures i;
-      which = c.number_of_which.ensures i;
+      which = c.told-in-Err.ensures i;
       kind = 0;
       place = 0;
       length = 0;

@@ -3,6 +3,7 @@ use mathlib.Core.Path.{ap, ◌∙◌}
 use Rattle.accounts.specs.declared.settings.Settings.{Settings}
 use Rattle.model.specs.Calls.{open_heap}
 use Rattle.exports.specs.HeapReplies.{left}
+use Rattle.exports.proofs.HeapReplies.{number_says}
 use Rattle.exports.proofs.heaps.lokhazim_raw_open.Goals as goal
 
 pub returns : goal.returns
@@ -11,7 +12,7 @@ returns c =
     let g = o in
     let a = g.args in
     record {
-      holds = ap (left o.open.new.heap o.open.new.words) c.number_of.ensures
+      holds = ap (left o.open.new.heap o.open.new.words) (number_says _ _ c.number_of.ensures)
           ∙ o.open.ensures.holds
           ∙ ap (λ (x : Settings). open_heap x a.heap.now a.grants.values) g.settings_by-settings.ensures;
       pads = o.open.ensures.pads;

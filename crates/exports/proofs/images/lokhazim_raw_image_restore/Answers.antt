@@ -4,6 +4,7 @@ use mathlib.Core.Path.{ap, sym, ◌∙◌, subst}
 use Rattle.words.specs.Words.{accounts_of}
 use Rattle.image_model.specs.Answers.{RestoredTo}
 use Rattle.image.specs.Restoring.{Left}
+use Rattle.exports.proofs.ImageReplies.{number_says}
 use Rattle.exports.proofs.images.lokhazim_raw_image_restore.Goals as goal
 
 pub returns : goal.returns
@@ -11,7 +12,7 @@ returns c =
     let w = c in
     let l = w.restore_image.new in
     let a = w.args in
-    let e = c.number_of_read.ensures l.heap (accounts_of l.words) ∙ w.restore_image.ensures.holds in
+    let e = number_says l.heap (accounts_of l.words) _ _ c.number_of.ensures ∙ w.restore_image.ensures.holds in
     record {
       holds = e;
       leaves = subst (λ (n : ℕ). Left n a.words.now l.words) (sym (ap (λ (r : RestoredTo). r.refusal) e))

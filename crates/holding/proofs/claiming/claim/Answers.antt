@@ -1,7 +1,6 @@
 -- `holding::claim` meets its contract: the survey, the quota, its permission and the object decide in the order of claim's lines, and then the place of the
 -- quota's record picks the way of the claim. The block lies in the heap, so its length is short and the charge fits.
-use Rattle.std.specs.Prelude.{Ok, Err, None}
-use Prim.Native.Nat.{ℕ, ◌-◌, ◌/◌, ◌%◌}
+use Prim.Native.Nat.{ℕ, ◌/◌, ◌%◌}
 use native.Mathlib.Omega.{arith}
 use mathlib.Core.Path.{◌≡◌, refl, ap, sym, ◌∙◌}
 use mathlib.Core.Bool.{true}

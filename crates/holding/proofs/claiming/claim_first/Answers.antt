@@ -9,9 +9,6 @@ use Rattle.holding.proofs.Claims.{first_short, first_full, first_takes}
 use Rattle.words.specs.Words.{accounts_of}
 use Rattle.holding.proofs.claiming.claim_first.Goals as goal
 
-pub overflow_add-charge : goal.overflow_add-charge
-overflow_add-charge c = omega (arith, c.requires.0)
-
 pub returns-then-remaining-charge-clause-holds : goal.returns-then-remaining-charge-clause-holds
 returns-then-remaining-charge-clause-holds c =
     let a = c.args in

@@ -11,7 +11,7 @@ use Rattle.layout.specs.Bytes.{Octets}
 use Rattle.model.specs.Calls.{free_all}
 use Rattle.model.specs.declared.Refusal.TheVariants.{QuotaNumber, NotPermitted}
 use Rattle.invariant.proofs.Laid.{allowed_most}
-use Rattle.results.specs.declared.AmountResult.{AmountResult}
+use Rattle.results.specs.Results.{AmountResult}
 use Rattle.results.specs.Results.{amount_outcome, amount_result}
 use Rattle.results.proofs.Lines.{check_accounted, permitted}
 use Rattle.words.specs.Words.{edition_of, holds_of, accounts_of}
@@ -20,7 +20,7 @@ use Rattle.survey.specs.Survey.{verdict_in}
 use Rattle.holding.specs.Emptying.{flags_of, Emptiable, Emptied}
 use Rattle.holding.proofs.FreedAll.{all_by_check, all_by_quota, all_by_permission, all_passes, all_refuses, all_freed}
 use Rattle.holding.proofs.freeing.free_all.Goals as goal
-use Rattle.holding.proofs.freeing.free_all.Goals.{After-kind}
+use Rattle.holding.proofs.freeing.free_all.Goals.{After-drop_holds}
 
 pub returns-in_err-survey-clause-holds : goal.returns-in_err-survey-clause-holds
 returns-in_err-survey-clause-holds c =
@@ -50,14 +50,14 @@ returns-then-permissions-eq0-clause-holds c =
     c.if-quota-ge-QUOTAS.false no)
 
 -- the heap's bytes are bytes
-octets : (c : After-kind) → Octets c.args.heap.now
+octets : (c : After-drop_holds) → Octets c.args.heap.now
 octets c i = (c.slice_known-1.given i).fits
 
 -- the walk may start, and what it leaves is the definition's
-walked : (c : After-kind)
+walked : (c : After-drop_holds)
     → let a = c.args in let flags = flags_of (holds_of c.drop_holds.new.words) a.heap.now in
-    Emptiable c.kind.result flags a.heap.now
-    × ((s : List ℕ) → Emptied c.kind.result flags a.heap.now s
+    Emptiable (accounts_of c.drop_holds.new.words).kind flags a.heap.now
+    × ((s : List ℕ) → Emptied (accounts_of c.drop_holds.new.words).kind flags a.heap.now s
     → (r : AmountResult) → r ≡ amount_result c.drop_holds.new.words (Ok c.spent-back.result)
     → amount_outcome s r ≡ free_all (table (edition_of a.words.now)) a.heap.now (accounts_of a.words.now) a.quota)
 walked c =
@@ -75,11 +75,11 @@ walked c =
     all_freed u a.heap.now k (octets c) (allowed_most _ consistent.0) consistent.1 (sized w) a.quota few
     c.spent-back.result c.spent-back.ensures
     (accounts_of c.refund.new.words) (accounts_of c.drop_holds.new.words) c.refund.ensures.holds c.drop_holds.ensures.holds
-    (holds_of c.drop_holds.new.words) refl c.kind.result c.kind.ensures
+    (holds_of c.drop_holds.new.words) refl (accounts_of c.drop_holds.new.words).kind refl
     (all_passes u a.heap.now k a.quota n y.survey.ensures.told ok few able)
 
 pub free_unheld-requires : goal.free_unheld-requires
-free_unheld-requires c = (walked c).0
+free_unheld-requires c = (walked (goal.at.free_unheld-requires c).After-drop_holds).0
 
 pub returns-clause-holds : goal.returns-clause-holds
-returns-clause-holds c = (walked (goal.at.returns-clause-holds c).After-kind).1 _ c.free_unheld.ensures _ refl
+returns-clause-holds c = (walked (goal.at.returns-clause-holds c).After-drop_holds).1 _ c.free_unheld.ensures _ refl

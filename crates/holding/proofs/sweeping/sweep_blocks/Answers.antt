@@ -2,7 +2,7 @@ use Rattle.std.specs.Prelude.{Some}
 use Prim.Native.Nat.{◌+◌, ◌*◌, ◌≤◌, ◌<◌}
 use native.Mathlib.Omega.{arith}
 use borrow.Author.Rules.{rules}
-use mathlib.Core.Path.{◌≡◌, refl, sym, ◌∙◌}
+use mathlib.Core.Path.{◌≡◌, sym, ◌∙◌}
 use mathlib.Core.List.{List}
 use lib.ListN.{length}
 use Rattle.layout.specs.Blocks.{Block, start_at}
@@ -32,9 +32,6 @@ passing : (c : In-Some) (bs : List Block) → Sweeping bs 0 0 c.args.heap.now
     (swept_end (headed c.loop-header.at c.in-Some.header) c.loop-header.heap)
     (swept_bytes (headed c.loop-header.at c.in-Some.header) c.loop-header.heap)
 passing c bs e = let l = c in sweeping_on bs l.loop-header.sum l.loop-header.at l.loop-header.heap (l.loop-header.invariant.1 bs e) c.in-Some.header (found c)
-
-pub loop-header-init : goal.loop-header-init
-loop-header-init c = (refl, λ bs e. e)
 
 pub returns : goal.returns
 returns c bs e =

@@ -1,6 +1,7 @@
 -- A byte as a number of four bytes is the byte and three zeros (`four_of_one`).
 use mathlib.Core.Path.{ap, ◌∙◌}
 use mathlib.Core.List.{List}
+use borrow.Author.Rules.{rules}
 use Prim.Native.Nat.{ℕ}
 use Rattle.layout.specs.Bytes.{bytes, overwrite, write_number}
 use Rattle.image.proofs.Heads.{four_of_one}
@@ -13,5 +14,5 @@ returns c =
     let b = w in
     let a = b.args in
     w.write_u32.ensures
-    ∙ ap (λ (n : ℕ). overwrite a.at (bytes 4 n) a.head.now) b.wide.ensures.0
-    ∙ ap (λ (s : List ℕ). overwrite a.at s a.head.now) (four_of_one a.permissions (rw b.wide.ensures.0 at b.wide.ensures.1))
+    ∙ ap (λ (n : ℕ). overwrite a.at (bytes 4 n) a.head.now) c.from.ensures
+    ∙ ap (λ (s : List ℕ). overwrite a.at s a.head.now) (four_of_one a.permissions (search rules))

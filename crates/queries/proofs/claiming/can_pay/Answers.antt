@@ -10,9 +10,6 @@ use Rattle.words.specs.Words.{accounts_of}
 use Rattle.queries.specs.Claimable.{refusal_in}
 use Rattle.queries.proofs.claiming.can_pay.Goals as goal
 
-pub overflow_add-charge : goal.overflow_add-charge
-overflow_add-charge c = omega (arith, c.requires.0)
-
 pub returns-then-remaining-charge : goal.returns-then-remaining-charge
 unfolding verdict_values amount_values
 returns-then-remaining-charge c h =

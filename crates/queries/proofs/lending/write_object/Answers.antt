@@ -2,7 +2,6 @@
 use Rattle.std.proofs.lemmas.Result.{err_from_is_err_and}
 use Rattle.std.specs.Prelude.{Result}
 use Rattle.model.specs.declared.Refusal.{Refusal}
-use native.Mathlib.Omega.{arith}
 use mathlib.Core.Path.{ap, ◌∙◌}
 use Rattle.rounding.specs.Rounding.{table}
 use Rattle.words.specs.Words.{edition_of, accounts_of}
@@ -19,11 +18,6 @@ returns-in_err-is_lent c =
     let p = err_from_is_err_and c.from_residual.result c.from_residual.ensures.1 in
     rw (p.1, p.2) (refused_is _ a.heap.now (accounts_of a.words.now) _ _
     (c.is_lent.ensures.0 ∙ ap (λ (v : Result (Unit {0}) Refusal). (verdict_values v).refusal) c.in_err-is_lent.was))
-
-pub bounds-heap-index : goal.bounds-heap-index
-bounds-heap-index c =
-    let l = c.is_lent.ensures.1 c.in_ok-is_lent.was in
-    omega (arith, l, c.if-at-handle.true)
 
 pub returns-then-at-handle : goal.returns-then-at-handle
 unfolding verdict_values

@@ -10,7 +10,6 @@ use Rattle.std.proofs.lemmas.Result.{err_from_is_err_and}
 use Rattle.rounding.specs.Rounding.{table}
 use Rattle.accounts.specs.declared.Accounts.{Accounts}
 use Rattle.words.specs.Words.{edition_of, accounts_of}
-use Rattle.words.proofs.Padding.{padded_same, padded_on}
 use Rattle.model.specs.Answers.{amount_values, verdict_values, refusal_number}
 use Rattle.model.specs.Calls.{Outcome, claim, release, can_release}
 use Rattle.model.proofs.Answers.{refusal_number_is}
@@ -34,28 +33,22 @@ whole e = omega (arith, e.if-count-gt-PLACES.false, e.word_at-count.ensures)
 not_full : (e : Else-count-eq-PLACES) → (queue_of e.args.queue.now).count ≡ PLACES → ⊥
 not_full e z = e.if-count-eq-PLACES.false (e.word_at-count.ensures ∙ z)
 
-pub returns-then-count-gt-PLACES : goal.returns-then-count-gt-PLACES
+pub returns-then-count-gt-PLACES-clause-holds : goal.returns-then-count-gt-PLACES-clause-holds
 unfolding send_number
-returns-then-count-gt-PLACES c =
+returns-then-count-gt-PLACES-clause-holds c =
     let a = c.args in
     let w = a.words.now in
-    record {
-      holds = send_damaged (table (edition_of w)) a.heap.now (accounts_of w) (queue_of a.queue.now) a.handle
-          (omega (arith, c.if-count-gt-PLACES.true, c.word_at-count.ensures));
-      pads = padded_same w;
-    }
+    send_damaged (table (edition_of w)) a.heap.now (accounts_of w) (queue_of a.queue.now) a.handle
+    (omega (arith, c.if-count-gt-PLACES.true, c.word_at-count.ensures))
 
-pub returns-then-count-eq-PLACES : goal.returns-then-count-eq-PLACES
+pub returns-then-count-eq-PLACES-clause-holds : goal.returns-then-count-eq-PLACES-clause-holds
 unfolding send_number
-returns-then-count-eq-PLACES c =
+returns-then-count-eq-PLACES-clause-holds c =
     let f = c in
     let a = f.args in
     let w = a.words.now in
-    record {
-      holds = send_full (table (edition_of w)) a.heap.now (accounts_of w) (queue_of a.queue.now) a.handle
-          (omega (arith, c.if-count-gt-PLACES.false, f.word_at-count.ensures)) (sym f.word_at-count.ensures ∙ c.if-count-eq-PLACES.true);
-      pads = padded_same w;
-    }
+    send_full (table (edition_of w)) a.heap.now (accounts_of w) (queue_of a.queue.now) a.handle
+    (omega (arith, c.if-count-gt-PLACES.false, f.word_at-count.ensures)) (sym f.word_at-count.ensures ∙ c.if-count-eq-PLACES.true)
 
 pub returns-in-Err-can_claim-clause-holds : goal.returns-in-Err-can_claim-clause-holds
 unfolding send_number verdict_values
@@ -70,9 +63,9 @@ returns-in-Err-can_claim-clause-holds c =
     send_unclaimed unit s k (queue_of a.queue.now) a.handle (whole (goal.at.returns-in-Err-can_claim-clause-holds c).Else-count-eq-PLACES)
     (not_full (goal.at.returns-in-Err-can_claim-clause-holds c).Else-count-eq-PLACES) (refusal_number x) no (refusal_number_is x).1
 
-pub returns-in-Err : goal.returns-in-Err
+pub returns-in-Err-clause-holds : goal.returns-in-Err-clause-holds
 unfolding send_number verdict_values
-returns-in-Err c =
+returns-in-Err-clause-holds c =
     let p = c in
     let b = p in
     let v = b in
@@ -89,13 +82,9 @@ returns-in-Err c =
     let no =
     ap (λ (q : ℕ). (can_release unit s k q a.handle).values.refusal) (sym r.word_at-sender.ensures)
     ∙ answer-is v.can_release.ensures x.in-Err.is in
-    record {
-      holds =
-          send_unreleased unit s k (queue_of a.queue.now) a.handle (whole (goal.at.returns-in-Err c).Else-count-eq-PLACES)
-          (not_full (goal.at.returns-in-Err c).Else-count-eq-PLACES) claims (refusal_number x.in-Err.refusal) no
-          (refusal_number_is x.in-Err.refusal).1;
-      pads = padded_same w;
-    }
+    send_unreleased unit s k (queue_of a.queue.now) a.handle (whole (goal.at.returns-in-Err-clause-holds c).Else-count-eq-PLACES)
+    (not_full (goal.at.returns-in-Err-clause-holds c).Else-count-eq-PLACES) claims (refusal_number x.in-Err.refusal) no
+    (refusal_number_is x.in-Err.refusal).1
 
 pub returns-in_err-claim-clause-holds : goal.returns-in_err-claim-clause-holds
 unfolding send_number amount_values
@@ -116,9 +105,9 @@ returns-in_err-claim-clause-holds c =
     (not_full (goal.at.returns-in_err-claim-clause-holds c).Else-count-eq-PLACES) k₁ (amount_values c.claim.result) made
     (omega (arith, n, (refusal_number_is x).1)))
 
-pub returns : goal.returns
+pub returns-clause-holds : goal.returns-clause-holds
 unfolding send_number verdict_values amount_values
-returns c =
+returns-clause-holds c =
     let f = c in
     let told₂ = f in
     let d = told₂ in
@@ -144,10 +133,7 @@ returns c =
     let freed =
     f.release.ensures.holds ∙ ap (λ (n : ℕ). release (table n) s k₁ r.word_at-sender.result a.handle) same
     ∙ ap (λ (q : ℕ). release unit s k₁ q a.handle) r.word_at-sender.ensures in
-    record {
-      holds = ap (λ (u : Queue). record { heap = s'; accounts = k₂; queue = u; refusal = 0 }) c.put_handle.ensures
-          ∙ send_made unit s k (queue_of a.queue.now) a.handle (whole (goal.at.returns c).Else-count-eq-PLACES)
-          (not_full (goal.at.returns c).Else-count-eq-PLACES) claims s' k₁ k₂
-          (amount_values d.claim.result) (amount_values f.release.result) made releases freed;
-      pads = padded_on d.claim.ensures.pads f.release.ensures.pads;
-    }
+    ap (λ (u : Queue). record { heap = s'; accounts = k₂; queue = u; refusal = 0 }) c.put_handle.ensures
+    ∙ send_made unit s k (queue_of a.queue.now) a.handle (whole (goal.at.returns-clause-holds c).Else-count-eq-PLACES)
+    (not_full (goal.at.returns-clause-holds c).Else-count-eq-PLACES) claims s' k₁ k₂
+    (amount_values d.claim.result) (amount_values f.release.result) made releases freed

@@ -5,8 +5,4 @@ use Rattle.queue.proofs.InWords.{handles_at}
 use Rattle.queue.proofs.places.oldest.Goals as goal
 
 pub returns : goal.returns
-returns c =
-    let b = c in
-    let w = b.args.queue.now in
-    (λ i. record { base = b.word_at.ensures i; length = c.word_at-2.ensures i; serial = c.word_at-3.ensures i })
-    ∙ sym (handles_at w 0 (search rules))
+returns c = c.handle_in.ensures ∙ sym (handles_at c.args.queue.now 0 (search rules))

@@ -5,28 +5,21 @@ use Rattle.replay_model.specs.Replay.{block_line, tail_of}
 use Rattle.replay_text.proofs.Puts.{room_first, room_next, put_two}
 use Rattle.replay_text.proofs.answers.put_block.Goals as goal
 
-pub put_number-next-requires : goal.put_number-next-requires
-unfolding block_line tail_of
-put_number-next-requires c =
-    let e = c in
-    let a = e.args in
-    room_first a.at (decimal a.block.offset) (tail_of (a.block.size ∷ (a.block.serial ∷ []))) a.output.now e.requires.1
+pub put_number-requires : goal.put_number-requires
+unfolding block_line
+put_number-requires c =
+    let b = c.args.block in
+    room_first (decimal b.offset) (tail_of (b.size ∷ (b.serial ∷ []))) c.args.output.now c.requires.1
 
-pub put_pair-requires : goal.put_pair-requires
-unfolding block_line tail_of
-put_pair-requires c =
-    let p = c in
-    let e = p in
-    let a = e.args in
-    room_next a.at (decimal a.block.offset) (tail_of (a.block.size ∷ (a.block.serial ∷ []))) a.output.now p.put_number-next.new.output
-    p.put_number-next.result e.requires.1 p.put_number-next.ensures
+pub put_tail-requires : goal.put_tail-requires
+unfolding block_line
+put_tail-requires c =
+    let b = c.args.block in
+    room_next (decimal b.offset) (tail_of (b.size ∷ (b.serial ∷ []))) c.args.output.now c.put_number.new.self c.requires.1 c.put_number.ensures
 
 pub returns : goal.returns
-unfolding block_line tail_of
+unfolding block_line
 returns c =
-    let q = c in
-    let p = q in
-    let e = p in
-    let a = e.args in
-    put_two a.at (decimal a.block.offset) (tail_of (a.block.size ∷ (a.block.serial ∷ []))) a.output.now p.put_number-next.new.output
-    q.put_pair.new.output p.put_number-next.result q.put_pair.result e.requires.1 p.put_number-next.ensures q.put_pair.ensures
+    let b = c.args.block in
+    put_two (decimal b.offset) (tail_of (b.size ∷ (b.serial ∷ []))) c.args.output.now c.put_number.new.self c.put_tail.new.self c.requires.1
+    c.put_number.ensures c.put_tail.ensures

@@ -1,45 +1,47 @@
--- The line's name and numbers as an opening: the name, and exactly as many numbers.
-use borrow.Author.Rules.{rules}
-use native.Mathlib.Omega.{arith}
-use borrow.Author.Tests.{not-true, not-false}
-use mathlib.Core.Path.{◌≡◌, ap, sym, ◌∙◌}
-use lib.ListN.{take}
-use Rattle.std.specs.Prelude.{Option, None}
-use Rattle.replay_text.specs.declared.Opening.{Opening}
+-- The line's name, the heap's length, and a grant for each quota.
+use mathlib.Core.Path.{ap, sym, ◌∙◌}
+use Rattle.replay_model.specs.Text.{read_number}
+use Rattle.replay_model.specs.Lines.{words, numbers}
 use Rattle.replay_text.specs.Clauses.{opening_line}
-use Rattle.replay_text.proofs.Asking.{opens_fewer}
-use Rattle.replay_text.proofs.Phrases.{opening_not, opening_is, line_fits, opens_not, opens_is}
+use Rattle.replay_text.proofs.Asking.{line_alone_opening, line_opening_is, opens_nothing, opening_one, opening_two}
+use Rattle.replay_text.proofs.Asking.{opens_no_heap, opens_no_grants, opens_with}
 use Rattle.replay_text.proofs.commands.read_opening.Goals as goal
 
-pub returns-in_err-line : goal.returns-in_err-line
-returns-in_err-line c =
-    let a = c.args in
-    let none_is : ◌≡◌ {A = Option Opening} c.from_residual.result None = search rules in
-    none_is ∙ ap opening_line (opening_not a.line.now c.read_line.result c.read_line.ensures c.in_err-line.was)
+pub returns-in_err-name : goal.returns-in_err-name
+returns-in_err-name c = c.from_residual.ensures ∙ ap opening_line (line_alone_opening c.args.line.now c.in_err-name.ensures)
 
-pub returns-then-line-ne-MOST : goal.returns-then-line-ne-MOST
-returns-then-line-ne-MOST c =
-    let a = c.args in
-    let l = c.in_ok-line.line in
-    let s = a.line.now in
-    let fits = line_fits s c.read_line.result c.read_line.ensures l c.in_ok-line.was in
-    ap opening_line (opens_fewer l.count l.values l.name (omega (arith, fits)) c.if-line-ne-MOST.true
-    ∙ opening_is s c.read_line.result c.read_line.ensures l c.in_ok-line.was)
+pub returns-in_default : goal.returns-in_default
+returns-in_default c =
+    let p = c.in_ok-name in
+    ap opening_line (opens_nothing c.read_word.result (numbers (words p.numbers.now)) c.in_default.not-Open
+    ∙ line_opening_is c.args.line.now p.name.now p.numbers.now p.ensures c.read_word.result c.read_word.ensures)
 
-pub returns-then-not-opens : goal.returns-then-not-opens
-returns-then-not-opens c =
-    let a = c.args in
-    let l = c.in_ok-line.line in
-    ap opening_line (opens_not l.name (take l.count l.values) (sym c.opens.ensures ∙ not-true c.opens.result c.if-not-opens.true-raw)
-    ∙ opening_is a.line.now c.read_line.result c.read_line.ensures l c.in_ok-line.was)
+pub returns-in_err-heap : goal.returns-in_err-heap
+returns-in_err-heap c =
+    let p = c.in_ok-name in
+    c.from_residual-in_err-heap.ensures
+    ∙ ap opening_line (opening_one c.args.line.now p.name.now p.numbers.now p.ensures (sym c.in-Open.is ∙ c.read_word.ensures) c.in_err-heap.ensures)
+
+pub returns-in_err-read_number : goal.returns-in_err-read_number
+returns-in_err-read_number c =
+    let p = c.in_ok-name in
+    let h = c.in_ok-heap in
+    c.from_residual-in_err-read_number.ensures
+    ∙ ap opening_line (opens_no_heap (read_number h.heap.now) (numbers (words h.grants.now)) c.in_err-read_number.ensures
+    ∙ opening_two c.args.line.now p.name.now p.numbers.now p.ensures (sym c.in-Open.is ∙ c.read_word.ensures) h.heap.now h.grants.now h.ensures)
+
+pub returns-in_err-read_numbers : goal.returns-in_err-read_numbers
+returns-in_err-read_numbers c =
+    let p = c.in_ok-name in
+    let h = c.in_ok-heap in
+    c.from_residual-in_err-read_numbers.ensures
+    ∙ ap opening_line (opens_no_grants (read_number h.heap.now) (numbers (words h.grants.now)) c.in_err-read_numbers.ensures
+    ∙ opening_two c.args.line.now p.name.now p.numbers.now p.ensures (sym c.in-Open.is ∙ c.read_word.ensures) h.heap.now h.grants.now h.ensures)
 
 pub returns : goal.returns
 returns c =
-    let a = c.args in
-    let l = c.in_ok-line.line in
-    let s = a.line.now in
-    let fits = line_fits s c.read_line.result c.read_line.ensures l c.in_ok-line.was in
-    let named = sym c.opens.ensures ∙ not-false c.opens.result c.if-not-opens.false-raw in
-    ap opening_line (opens_is l.name l.count l.values c.behind_first.result named c.if-line-ne-MOST.false fits.1
-    c.behind_first.ensures
-    ∙ opening_is s c.read_line.result c.read_line.ensures l c.in_ok-line.was)
+    let p = c.in_ok-name in
+    let h = c.in_ok-heap in
+    ap opening_line (opens_with (read_number h.heap.now) (numbers (words h.grants.now)) c.in_ok-read_number.field-0 c.in_ok-read_numbers.field-0
+    c.in_ok-read_number.ensures c.in_ok-read_numbers.ensures
+    ∙ opening_two c.args.line.now p.name.now p.numbers.now p.ensures (sym c.in-Open.is ∙ c.read_word.ensures) h.heap.now h.grants.now h.ensures)

@@ -1,22 +1,17 @@
-use borrow.Author.Rules.{rules}
+-- One digit more than the power of ten that is not above the number.
 use native.Mathlib.Omega.{arith}
-use Rattle.replay_text.proofs.Spelling.{count_start, count_more, count_end, count_most}
+use mathlib.Core.Path.{sym}
+use Rattle.replay_model.proofs.Decimals.{places_one}
+use Rattle.replay_text.proofs.Spelling.{places_log}
 use Rattle.replay_text.proofs.digits.count_digits.Goals as goal
 
-pub loop-rest-init : goal.loop-rest-init
-loop-rest-init c = count_start c.args.n (search rules)
+pub returns-in-Some : goal.returns-in-Some
+returns-in-Some c =
+    let l = c.in-Some.ensures in
+    let b = l.bound in
+    sym (places_log c.in-Some.log 9 c.args.n (omega arith) l.power_le l.next_power_gt)
 
-pub overflow_add-count : goal.overflow_add-count
-overflow_add-count c =
-    let l = c in
-    omega (arith, count_most l.args.n l.loop-rest.count l.loop-rest.rest l.loop-rest.invariant)
-
-pub loop-rest-preserved : goal.loop-rest-preserved
-loop-rest-preserved c =
-    let l = c in
-    count_more l.args.n l.loop-rest.count l.loop-rest.rest l.loop-rest.invariant c.loop-rest-test.true
-
-pub returns : goal.returns
-returns c =
-    let l = c in
-    count_end l.args.n l.loop-rest.count l.loop-rest.rest l.loop-rest.invariant (search rules)
+pub returns-in-None : goal.returns-in-None
+returns-in-None c =
+    let z = c.in-None.ensures.none in
+    sym (places_one 9 c.args.n (omega arith))

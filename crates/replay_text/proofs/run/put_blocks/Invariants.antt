@@ -13,7 +13,7 @@ use Rattle.replay_text.proofs.run.put_blocks.Given as goal
 
 abbrev pub invariant-loop-block : goal.invariant-loop-block
 invariant-loop-block l = (bs : List Block) × Passing (blocks_of l.heap) l.place bs
-    × Running (heap_lines l.heap) l.at l.initial.output l.output l.next (block_lines (listing_from l.place bs))
+    × Running (heap_lines l.heap) l.initial.output l.output (block_lines (listing_from l.place bs))
 
 abbrev pub decreases-loop-block : goal.decreases-loop-block
 decreases-loop-block l = length l.heap - l.place

@@ -2,8 +2,6 @@
 use Prim.Native.Nat.{ℕ}
 use mathlib.Core.Path.{sym, subst}
 use mathlib.Core.List.{List, []}
-use lib.ListN.{length}
-use lib.Seq.{slice}
 use Rattle.replay_model.specs.Lines.{lines}
 use Rattle.replay_model.specs.Replay.{ok_line, run_lines}
 use Rattle.replay_text.specs.Clauses.{Room, Put}
@@ -13,76 +11,49 @@ use Rattle.replay_text.proofs.run.run_opened.Goals as goal
 
 pub put_refusal-requires : goal.put_refusal-requires
 put_refusal-requires c =
-    let t = c in
-    let v = t in
-    let o = v in
-    let e = o in
-    let a = e.args in
-    let ls = lines (slice a.from (length a.input.now) a.input.now) in
-    subst (λ (x : List ℕ). Room 0 x a.output.now)
-    (sym (opened_refused a.heap.now a.grants o.open_plain-opened.new.heap o.open_plain-opened.result.accounts o.open_plain-opened.result.verdict
-    o.open_plain-opened.ensures v.verdict_refusal-refusal.result v.verdict_refusal-refusal.ensures ls t.if-refusal-ne0.true)) e.requires.2
+    let a = c.args in
+    let o = c.open_plain-opened in
+    subst (λ (x : List ℕ). Room x a.output.now)
+    (sym (opened_refused a.heap.now a.grants o.new.heap o.result.accounts o.result.verdict o.ensures (lines a.input.now) c.in-Err.refusal c.in-Err.is))
+    c.requires.1
 
-pub returns-then-refusal-ne0 : goal.returns-then-refusal-ne0
-returns-then-refusal-ne0 c =
-    let p = c in
-    let t = p in
-    let v = t in
-    let o = v in
-    let e = o in
-    let a = e.args in
-    let ls = lines (slice a.from (length a.input.now) a.input.now) in
-    subst (λ (x : List ℕ). Put 0 x a.output.now p.put_refusal.new.output p.put_refusal.result)
-    (opened_refused a.heap.now a.grants o.open_plain-opened.new.heap o.open_plain-opened.result.accounts o.open_plain-opened.result.verdict
-    o.open_plain-opened.ensures v.verdict_refusal-refusal.result v.verdict_refusal-refusal.ensures ls t.if-refusal-ne0.true) p.put_refusal.ensures
+pub returns-in-Err : goal.returns-in-Err
+returns-in-Err c =
+    let a = c.args in
+    let o = c.open_plain-opened in
+    subst (λ (x : List ℕ). Put x a.output.now c.put_refusal.new.output)
+    (opened_refused a.heap.now a.grants o.new.heap o.result.accounts o.result.verdict o.ensures (lines a.input.now) c.in-Err.refusal c.in-Err.is)
+    c.put_refusal.ensures
 
-pub put_ok-at-requires : goal.put_ok-at-requires
-put_ok-at-requires c =
-    let x = c in
-    let v = x in
-    let o = v in
-    let e = o in
-    let a = e.args in
-    let ls = lines (slice a.from (length a.input.now) a.input.now) in
-    room_first 0 (ok_line []) (run_lines ls o.open_plain-opened.new.heap o.open_plain-opened.result.accounts) a.output.now
-    (subst (λ (x : List ℕ). Room 0 x a.output.now)
-    (sym (opened_runs a.heap.now a.grants o.open_plain-opened.new.heap o.open_plain-opened.result.accounts o.open_plain-opened.result.verdict
-    o.open_plain-opened.ensures v.verdict_refusal-refusal.result v.verdict_refusal-refusal.ensures ls x.if-refusal-ne0.false)) e.requires.2)
+-- an accepted opening's line, and the run of the others, are all that is to be written
+pub put_line-requires : goal.put_line-requires
+unfolding ok_line
+put_line-requires c =
+    let a = c.args in
+    let o = c.open_plain-opened in
+    let ls = lines a.input.now in
+    let runs = opened_runs a.heap.now a.grants o.new.heap o.result.accounts o.result.verdict o.ensures ls c.in_default.is in
+    room_first (ok_line []) (run_lines ls o.new.heap o.result.accounts) a.output.now (subst (λ (x : List ℕ). Room x a.output.now) (sym runs) c.requires.1)
 
 pub run_calls-requires : goal.run_calls-requires
+unfolding ok_line
 run_calls-requires c =
-    let p = c in
-    let x = p in
-    let v = x in
-    let o = v in
-    let e = o in
-    let a = e.args in
-    let ls = lines (slice a.from (length a.input.now) a.input.now) in (
-      e.requires.0,
-      opened_reached a.heap.now a.grants o.open_plain-opened.new.heap o.open_plain-opened.result.accounts o.open_plain-opened.result.verdict
-          o.open_plain-opened.ensures v.verdict_refusal-refusal.result v.verdict_refusal-refusal.ensures e.requires.1 x.if-refusal-ne0.false,
-      room_next 0 (ok_line []) (run_lines ls o.open_plain-opened.new.heap o.open_plain-opened.result.accounts) a.output.now p.put_ok-at.new.output
-          p.put_ok-at.result
-          (subst (λ (x : List ℕ). Room 0 x a.output.now)
-          (sym (opened_runs a.heap.now a.grants o.open_plain-opened.new.heap o.open_plain-opened.result.accounts o.open_plain-opened.result.verdict
-          o.open_plain-opened.ensures v.verdict_refusal-refusal.result v.verdict_refusal-refusal.ensures ls x.if-refusal-ne0.false)) e.requires.2)
-          p.put_ok-at.ensures,
+    let a = c.args in
+    let o = c.open_plain-opened in
+    let ls = lines a.input.now in
+    let runs = opened_runs a.heap.now a.grants o.new.heap o.result.accounts o.result.verdict o.ensures ls c.in_default.is in (
+      opened_reached a.heap.now a.grants o.new.heap o.result.accounts o.result.verdict o.ensures c.requires.0 c.in_default.is,
+      room_next (ok_line []) (run_lines ls o.new.heap o.result.accounts) a.output.now c.put_line.new.self
+          (subst (λ (x : List ℕ). Room x a.output.now) (sym runs) c.requires.1) c.put_line.ensures,
     )
 
 pub returns : goal.returns
+unfolding ok_line
 returns c =
-    let q = c in
-    let p = q in
-    let x = p in
-    let v = x in
-    let o = v in
-    let e = o in
-    let a = e.args in
-    let ls = lines (slice a.from (length a.input.now) a.input.now) in
-    let runs =
-    opened_runs a.heap.now a.grants o.open_plain-opened.new.heap o.open_plain-opened.result.accounts o.open_plain-opened.result.verdict
-    o.open_plain-opened.ensures v.verdict_refusal-refusal.result v.verdict_refusal-refusal.ensures ls x.if-refusal-ne0.false in
-    subst (λ (x : List ℕ). Put 0 x a.output.now q.run_calls.new.output q.run_calls.result) runs
-    (put_two 0 (ok_line []) (run_lines ls o.open_plain-opened.new.heap o.open_plain-opened.result.accounts) a.output.now p.put_ok-at.new.output
-    q.run_calls.new.output p.put_ok-at.result q.run_calls.result
-    (subst (λ (x : List ℕ). Room 0 x a.output.now) (sym runs) e.requires.2) p.put_ok-at.ensures q.run_calls.ensures)
+    let a = c.args in
+    let o = c.open_plain-opened in
+    let ls = lines a.input.now in
+    let runs = opened_runs a.heap.now a.grants o.new.heap o.result.accounts o.result.verdict o.ensures ls c.in_default.is in
+    subst (λ (x : List ℕ). Put x a.output.now c.run_calls.new.output) runs
+    (put_two (ok_line []) (run_lines ls o.new.heap o.result.accounts) a.output.now c.put_line.new.self c.run_calls.new.output
+    (subst (λ (x : List ℕ). Room x a.output.now) (sym runs) c.requires.1) c.put_line.ensures c.run_calls.ensures)

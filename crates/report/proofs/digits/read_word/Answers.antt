@@ -1,7 +1,7 @@
 use native.Mathlib.Omega.{arith}
 use mathlib.Core.Path.{◌≡◌, refl, ap, ◌∙◌}
-use Prim.Native.Nat.{ℕ, ◌+◌}
-use lib.ListN.{take, drop, get_or}
+use Prim.Native.Nat.{ℕ}
+use lib.ListN.{take, get_or}
 use Rattle.report.specs.Words.{value, number}
 use Rattle.report.proofs.Loops.{read_more}
 use Rattle.report.proofs.digits.read_word.Goals as goal
@@ -15,7 +15,7 @@ overflow_mul-n c =
     let l = c in
     let s = l in
     let a = s.args in
-    let e = read_more a.text.now a.at s.requires.0 s.requires.1 l.loop-i.i l.loop-i.n (value (get_or a.text.now (a.at + l.loop-i.i) 0))
+    let e = read_more a.text.now s.requires.0 s.requires.1 l.loop-i.i l.loop-i.n (value (get_or a.text.now l.loop-i.i 0))
     (omega arith) l.loop-i.invariant refl in
     omega (arith, e.1)
 
@@ -24,7 +24,7 @@ overflow_add-n c =
     let l = c in
     let s = l in
     let a = s.args in
-    let e = read_more a.text.now a.at s.requires.0 s.requires.1 l.loop-i.i l.loop-i.n c.value_of.result (omega arith) l.loop-i.invariant
+    let e = read_more a.text.now s.requires.0 s.requires.1 l.loop-i.i l.loop-i.n c.value_of.result (omega arith) l.loop-i.invariant
     c.value_of.ensures in
     omega (arith, e.1)
 
@@ -33,7 +33,7 @@ loop-i-preserved c =
     let l = c in
     let s = l in
     let a = s.args in
-    let e = read_more a.text.now a.at s.requires.0 s.requires.1 l.loop-i.i l.loop-i.n c.value_of.result (omega arith) l.loop-i.invariant
+    let e = read_more a.text.now s.requires.0 s.requires.1 l.loop-i.i l.loop-i.n c.value_of.result (omega arith) l.loop-i.invariant
     c.value_of.ensures in
     e.0
 
@@ -42,4 +42,4 @@ returns c =
     let l = c in
     let a = l.args in
     let e : l.loop-i.i ≡ 8 = omega arith in
-    l.loop-i.invariant ∙ ap (λ (k : ℕ). number (take k (drop a.at a.text.now))) e
+    l.loop-i.invariant ∙ ap (λ (k : ℕ). number (take k a.text.now)) e

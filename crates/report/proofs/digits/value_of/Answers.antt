@@ -5,23 +5,19 @@ use Prim.Native.Nat.{ℕ, ◌-◌}
 use Rattle.report.proofs.Hex.{value_low, value_decimal, value_between, value_letter, value_high}
 use Rattle.report.proofs.digits.value_of.Goals as goal
 
-pub returns-then-c-lt48 : goal.returns-then-c-lt48
-returns-then-c-lt48 c = sym (value_low c.args.character (omega arith))
+pub returns-in-48-to-57 : goal.returns-in-48-to-57
+returns-in-48-to-57 c =
+    ap (λ (n : ℕ). n - 48) c.from-c.ensures ∙ sym (value_decimal c.args.character (omega arith) (omega arith))
 
-pub returns-then-c-le57 : goal.returns-then-c-le57
-returns-then-c-le57 c =
-    let w = c in
-    let e = w.from-c.ensures in
-    ap (λ (n : ℕ). n - 48) e ∙ sym (value_decimal w.args.character (omega arith) (omega arith))
+pub returns-in-97-to-102 : goal.returns-in-97-to-102
+returns-in-97-to-102 c =
+    ap (λ (n : ℕ). n - 87) c.from-c.ensures ∙ sym (value_letter c.args.character (omega arith) (omega arith))
 
-pub returns-then-c-lt97 : goal.returns-then-c-lt97
-returns-then-c-lt97 c = sym (value_between c.args.character (omega arith) (omega arith))
+pub returns-in_default : goal.returns-in_default
+returns-in_default c = sym (value_low c.args.character (omega arith))
 
-pub returns-then-c-le102 : goal.returns-then-c-le102
-returns-then-c-le102 c =
-    let w = c in
-    let e = w.from-c.ensures in
-    ap (λ (n : ℕ). n - 87) e ∙ sym (value_letter w.args.character (omega arith) (omega arith))
+pub returns-in_default-2 : goal.returns-in_default-2
+returns-in_default-2 c = sym (value_between c.args.character (omega arith) (omega arith))
 
-pub returns : goal.returns
-returns c = sym (value_high c.args.character (omega arith))
+pub returns-in_default-3 : goal.returns-in_default-3
+returns-in_default-3 c = sym (value_high c.args.character (omega arith))

@@ -1,6 +1,8 @@
 use native.Mathlib.Omega.{arith}
+use Prim.Native.Nat.{◌*◌}
 use mathlib.Core.Path.{ap, sym, ◌∙◌}
-use Rattle.report.specs.Import.{import_told}
+use Rattle.report.specs.Import.{import_told, line_of}
+use Rattle.report.proofs.Loops.{tail_is}
 use Rattle.report.proofs.Imports.{import_start, import_more, import_bad, import_over, import_end}
 use Rattle.report.proofs.importing.import_grants.Goals as goal
 
@@ -24,7 +26,7 @@ returns-in-Err c =
     (c.refused-in-Err.ensures
     ∙ import_bad l.args.text.now l.loop-i.grants l.loop-i.i l.loop-i.invariant.1
     (omega arith) m.in-Err.refusal r.if-i-ge-QUOTAS.false
-    (sym m.in-Err.is ∙ r.read_line.ensures))
+    (sym m.in-Err.is ∙ r.read_line.ensures ∙ ap line_of (tail_is (54 * l.loop-i.i) l.args.text.now)))
 
 pub loop-i-preserved : goal.loop-i-preserved
 loop-i-preserved c =
@@ -33,7 +35,7 @@ loop-i-preserved c =
     let l = r in (
       omega arith,
       import_more l.args.text.now l.loop-i.grants l.loop-i.i l.loop-i.invariant.1 m.in-Ok.grant
-          r.if-i-ge-QUOTAS.false (omega arith) (sym m.in-Ok.is ∙ r.read_line.ensures),
+          r.if-i-ge-QUOTAS.false (omega arith) (sym m.in-Ok.is ∙ r.read_line.ensures ∙ ap line_of (tail_is (54 * l.loop-i.i) l.args.text.now)),
     )
 
 pub returns : goal.returns

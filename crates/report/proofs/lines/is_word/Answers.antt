@@ -14,7 +14,7 @@ returns-then-not-is_digit c =
     let l = c in
     let s = l in
     let a = s.args in
-    word_stops a.text.now a.at a.mark s.requires l.loop-i.i (omega arith)
+    word_stops a.text.now a.mark s.requires l.loop-i.i (omega arith)
     (sym c.is_digit.ensures ∙ not-true c.is_digit.result c.if-not-is_digit.true-raw)
 
 pub loop-i-preserved : goal.loop-i-preserved
@@ -22,7 +22,7 @@ loop-i-preserved c =
     let l = c in
     let s = l in
     let a = s.args in
-    word_goes_on a.text.now a.at a.mark s.requires l.loop-i.i (omega arith) l.loop-i.invariant
+    word_goes_on a.text.now a.mark s.requires l.loop-i.i (omega arith) l.loop-i.invariant
     (sym c.is_digit.ensures ∙ not-false c.is_digit.result c.if-not-is_digit.false-raw)
 
 pub returns : goal.returns
@@ -30,4 +30,4 @@ returns c =
     let l = c in
     let s = l in
     let a = s.args in
-    word_ends a.text.now a.at a.mark s.requires l.loop-i.i (omega arith) l.loop-i.invariant
+    word_ends a.text.now a.mark s.requires l.loop-i.i (omega arith) l.loop-i.invariant

@@ -7,18 +7,26 @@ use Prim.Native.Nat.{◌+◌}
 use lib.ListN.{length}
 use Rattle.std.specs.Prelude.{Ok, Err, Some}
 use Rattle.settings.specs.declared.Entry.{Entry}
-use Rattle.settings.specs.Entries.{newest, stored}
+use Rattle.settings.specs.Entries.{newest, stored, last_of}
 use Rattle.settings.specs.Add.{added_to, add_told}
 use Rattle.settings.proofs.Values.{stored_is}
 use Rattle.settings.proofs.Puts.{last_known, last_unknown, add_malformed, add_long, add_falls, add_full, add_done}
 use Rattle.settings.proofs.adding.add.Goals as goal
 use Rattle.settings.proofs.adding.add.Goals.{In_ok-last}
 
+pub returns-in_err-used_bytes : goal.returns-in_err-used_bytes
+returns-in_err-used_bytes c =
+    let a = c.args in
+    let k = c.in_err-used_bytes.ensures in
+    let e : c.from_residual.result ≡ Err c.in_err-used_bytes.field-0.0 = search rules in
+    ap (added_to a.store.now) (e ∙ ap Err k.0) ∙ ap add_told (add_malformed a.name a.version a.value.now a.store.now a.used k.1)
+
 pub returns-in_err-last : goal.returns-in_err-last
 returns-in_err-last c =
     let a = c.args in
-    let u = last_unknown (stored a.store.now a.used) _ (sym c.in_err-last.was ∙ c.last_version.ensures) in
-    let e : c.from_residual.result ≡ Err c.in_err-last.field-0.0 = search rules in
+    let u = last_unknown (stored a.store.now a.used) _
+    (sym c.in_err-last.was ∙ c.last_version.ensures ∙ ap last_of (sym c.in_ok-used_bytes.ensures)) in
+    let e : c.from_residual-in_err-last.result ≡ Err c.in_err-last.field-0.0 = search rules in
     ap (added_to a.store.now) (e ∙ ap Err u.1) ∙ ap add_told (add_malformed a.name a.version a.value.now a.store.now a.used u.0)
 
 -- the entries of a store whose last version was found
@@ -28,7 +36,8 @@ known : (c : In_ok-last)
 known c =
     let l = c in
     let a = l.args in
-    last_known (stored a.store.now a.used) c.in_ok-last.last (sym c.in_ok-last.was ∙ l.last_version.ensures)
+    last_known (stored a.store.now a.used) c.in_ok-last.last
+    (sym c.in_ok-last.was ∙ l.last_version.ensures ∙ ap last_of (sym c.in_ok-used_bytes.ensures))
 
 pub returns-then-value-gt-GREATEST_VALUE : goal.returns-then-value-gt-GREATEST_VALUE
 returns-then-value-gt-GREATEST_VALUE c =

@@ -1,23 +1,20 @@
--- A used length beyond the bytes, or the entries of the used bytes.
-use native.Mathlib.Omega.{arith}
-use mathlib.Core.Path.{ap, sym, ◌∙◌}
-use lib.Seq.{length-take-le}
+-- The walk ends with the entry, or with what is still in front of it (`Folds`).
+use Rattle.std.proofs.Common.{rules, ◌≡◌, ap, sym, ◌∙◌}
+use Rattle.std.specs.Prelude.{Err}
 use Rattle.settings.specs.Entries.{entry_told, nth_of}
-use Rattle.settings.proofs.Stores.{stored_beyond, stored_within}
+use Rattle.settings.specs.Walks.{passed}
+use Rattle.settings.proofs.Folds.{nth_told}
 use Rattle.settings.proofs.entries.nth_entry.Goals as goal
 
-pub returns-then-store-used : goal.returns-then-store-used
-unfolding entry_told nth_of
-returns-then-store-used c =
-    let a = c.args in
-    sym (ap (nth_of a.n) (stored_beyond a.store.now a.used c.if-store-used.true))
-
-pub slice_bounds-nth_in-end : goal.slice_bounds-nth_in-end
-slice_bounds-nth_in-end c =
-    let a = c.args in
-    sym (length-take-le a.used a.store.now (omega arith))
+pub returns-in_err-used_bytes : goal.returns-in_err-used_bytes
+unfolding nth_of entry_told
+returns-in_err-used_bytes c =
+    let k = c.in_err-used_bytes.ensures in
+    let e : c.from_residual.result ≡ Err c.in_err-used_bytes.field-0.0 = search rules in
+    ap entry_told (e ∙ ap Err k.0) ∙ ap (nth_of c.args.n) (sym k.1)
 
 pub returns : goal.returns
 returns c =
-    let a = c.args in
-    c.nth_in.ensures ∙ sym (ap (nth_of a.n) (stored_within a.store.now a.used (omega arith)))
+    let n = c.args.n in
+    let w = c.walk.ensures passed (λ a e b p. search rules) in
+    nth_told n _ c.map.result _ (λ x y p. search rules) (rw w at c.map.ensures.cases) ∙ ap (nth_of n) (sym c.in_ok-used_bytes.ensures)

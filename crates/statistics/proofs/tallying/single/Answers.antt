@@ -1,41 +1,55 @@
--- `statistics::tallying::single` meets its contract, number by number.
-use native.Mathlib.Omega.{arith}
-use mathlib.Core.Path.{ap, ◌∙◌}
-use mathlib.Core.Bool.{Bool}
-use Rattle.statistics.specs.Tallies.{one_block, single}
+-- `statistics::tallying::single` meets its contract, number by number: the serial decides each test, and the other numbers are those of no
+-- block.
+use borrow.Author.Tests.{ne_eqb}
+use Rattle.lists.specs.Lists.{total}
+use Rattle.layout.specs.Blocks.{QUARANTINED}
+use Rattle.survey.specs.Shares.{how_many}
+use Rattle.statistics.specs.Statistics.{most}
+use Rattle.statistics.specs.Tallies.{count_met, tally_of, room_in, single}
+use Rattle.statistics.proofs.Joins.{zero_tally}
 use Rattle.statistics.proofs.tallying.single.Goals as goal
 
-pub room_in-requires : goal.room_in-requires
-room_in-requires c = let p = c.requires in (omega arith, omega arith, p)
+pub returns-in-0 : goal.returns-in-0
+unfolding single tally_of count_met how_many total most
+returns-in-0 c =
+    let none = zero_tally c.default.result c.default.ensures in
+    rw c.in-0.is (λ i. record {
+      free = record { blocks = 1; bytes = c.args.size };
+      live = (none i).live;
+      quarantined = (none i).quarantined;
+      largest = c.args.size;
+      room_8 = c.room_in.ensures i;
+      room_16 = c.room_in-in-0.ensures i;
+      room_32 = c.room_in-in-0-2.ensures i;
+      room_64 = c.room_in-in-0-3.ensures i;
+    })
 
-pub room_in-requires-2 : goal.room_in-requires-2
-room_in-requires-2 c = let p = c.requires in (omega arith, omega arith, p)
+pub returns-in-4294967295 : goal.returns-in-4294967295
+unfolding single room_in tally_of count_met how_many total most
+returns-in-4294967295 c =
+    let none = zero_tally c.default-in-4294967295.result c.default-in-4294967295.ensures in
+    rw c.in-4294967295.is (λ i. record {
+      free = (none i).free;
+      live = (none i).live;
+      quarantined = record { blocks = 1; bytes = c.args.size };
+      largest = (none i).largest;
+      room_8 = (none i).room_8;
+      room_16 = (none i).room_16;
+      room_32 = (none i).room_32;
+      room_64 = (none i).room_64;
+    })
 
-pub room_in-requires-3 : goal.room_in-requires-3
-room_in-requires-3 c = let p = c.requires in (omega arith, omega arith, p)
-
-pub room_in-requires-4 : goal.room_in-requires-4
-room_in-requires-4 c = let p = c.requires in (omega arith, omega arith, p)
-
-pub returns : goal.returns
-unfolding single
-returns c =
-    let r3 = c in
-    let r2 = r3 in
-    let r1 = r2 in
-    let f = r1 in
-    let q = f in
-    let a = q in
-    let l = a in
-    let o = l in
-    let size = o.args.size in
-    λ i. record {
-      free = o.one_block-free.ensures i;
-      live = (a.one_block-live.ensures ∙ ap (λ (t : Bool). one_block t size) l.is_live.ensures) i;
-      quarantined = q.one_block-quarantined.ensures i;
-      largest = f.if_so.ensures i;
-      room_8 = r1.room_in.ensures i;
-      room_16 = r2.room_in-2.ensures i;
-      room_32 = r3.room_in-3.ensures i;
-      room_64 = c.room_in-4.ensures i;
-    }
+pub returns-in_default : goal.returns-in_default
+unfolding single room_in tally_of count_met how_many total most
+returns-in_default c =
+    let none = zero_tally c.default-in_default.result c.default-in_default.ensures in
+    rw (ne_eqb c.args.serial 0 search, ne_eqb c.args.serial QUARANTINED search) (λ i. record {
+      free = (none i).free;
+      live = record { blocks = 1; bytes = c.args.size };
+      quarantined = (none i).quarantined;
+      largest = (none i).largest;
+      room_8 = (none i).room_8;
+      room_16 = (none i).room_16;
+      room_32 = (none i).room_32;
+      room_64 = (none i).room_64;
+    })

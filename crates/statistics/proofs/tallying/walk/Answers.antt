@@ -9,14 +9,15 @@ use Rattle.lookup.specs.Walk.{headed}
 use Rattle.lookup.proofs.Walk.{met_nothing, met_block}
 use Rattle.statistics.specs.declared.tallying.Tally.{Tally}
 use Rattle.statistics.specs.Tallies.{room_in, single, joined, Within}
-use Rattle.statistics.proofs.Joins.{single_within, within_more, Tallied, tallied_start, tallied_end, tallied_next}
+use Rattle.statistics.proofs.Joins.{zero_tally, single_within, within_more, Tallied, tallied_start, tallied_end, tallied_next}
 use Rattle.statistics.proofs.tallying.walk.Goals as goal
 use Rattle.statistics.proofs.tallying.walk.Goals.{After-single, After-struct_known-1}
 
 pub loop-header-init : goal.loop-header-init
 loop-header-init c =
     let s = c in
-    (subst (λ (t : Tally). Tallied s.args.heap.now 0 t) (sym c.empty-tally.ensures) (tallied_start s.args.heap.now), s.requires)
+    let none = zero_tally s.default-tally.result s.default-tally.ensures in
+    (subst (λ (t : Tally). Tallied s.args.heap.now 0 t) (sym none) (tallied_start s.args.heap.now), s.requires)
 
 pub returns-in_default : goal.returns-in_default
 returns-in_default c =

@@ -1,5 +1,6 @@
 -- `survey::room` meets its contract.
-use Rattle.std.proofs.Common.{◌+◌, arith, rules}
+use Rattle.std.proofs.Common.{ℕ, ◌+◌, ap, ◌∙◌, arith}
+use Rattle.lookup.specs.Walk.{multiple_from}
 use Rattle.survey.proofs.Told.{room_none, room_at, multiple_zero}
 use Rattle.survey.proofs.by_value.room.Goals as goal
 
@@ -15,14 +16,9 @@ returns-then-unit-eq0 c =
     room_at a.unit a.fit a.heap.now (omega (arith, b.if-heap-fit.false)) b.block_at-block.result 0 b.block_at-block.ensures
     (multiple_zero a.unit (a.fit + 8) c.if-unit-eq0.true)
 
-pub base_in-requires : goal.base_in-requires
-base_in-requires c =
-    let s = c in
-    (omega (arith, c.if-unit-eq0.false), search rules, omega (arith, c.if-heap-fit.false, s.well_formed.0.1))
-
 pub returns : goal.returns
 returns c =
     let b = c in
     let a = b.args in
     room_at a.unit a.fit a.heap.now (omega (arith, b.if-heap-fit.false)) b.block_at-block.result c.base_in.result b.block_at-block.ensures
-    c.base_in.ensures
+    (c.base_in.ensures ∙ ap (λ (u : ℕ). multiple_from u (a.fit + 8)) (c.unit_of.ensures c.if-unit-eq0.false))

@@ -1,6 +1,7 @@
--- `survey::framed::check_in_frames` meets its contract, by the laws that give the survey's verdict: the heap is the bytes that the stream has there.
+-- `survey::framed::check_in_frames` meets its contract, by the laws that give the survey's verdict: the heap is the
+-- bytes that the stream has there.
 use Rattle.std.specs.Prelude.{Ok, Err}
-use Rattle.std.proofs.Common.{◌≡◌, ℕ, Bool, true, false, cond, List, length, drop, sym, refl, ap, ◌∙◌, arith}
+use Rattle.std.proofs.Common.{◌≡◌, ℕ, Bool, true, false, cond, List, length, drop, sym, ap, ◌∙◌}
 use Rattle.rounding.specs.Rounding.{table}
 use Rattle.framing.specs.Frames.{stream_of}
 use Rattle.framing.proofs.Padding.{length_padded}
@@ -10,9 +11,7 @@ use Rattle.model.specs.Calls.{check as check_of}
 use Rattle.model.specs.Consistent.{allowed}
 use Rattle.words.specs.Words.{edition_of, accounts_of}
 use Rattle.survey.specs.Clauses.{heap_in}
-use Rattle.survey.specs.Survey.{verdict_of}
-use Rattle.survey.proofs.Building.{built_none}
-use Rattle.survey.proofs.Judgement.{verdict_length, last_given, walk_ready, verdict_walked}
+use Rattle.survey.proofs.Judgement.{verdict_length, walk_ready, verdict_walked}
 use Rattle.survey.proofs.framed.check_in_frames.Goals as goal
 use Rattle.survey.proofs.framed.check_in_frames.Goals.{Else-not-is_allowed, After-walk_frames, Start}
 
@@ -26,26 +25,23 @@ allows : (c : Else-not-is_allowed) → allowed (length (heap_in c.args.from c.ar
 allows c = ap allowed (length_padded c.args.size (drop c.args.from (stream_of c.args.image.now))) ∙ sym c.if-not-is_allowed.ensures
 
 pub returns-then-not-is_allowed : goal.returns-then-not-is_allowed
-unfolding verdict_of
 returns-then-not-is_allowed c =
     let s = (goal.at.returns-then-not-is_allowed c).Start in
     let w = c.args.words.now in
-    ap verdict_values c.verdict.ensures
-    ∙ verdict_length (table (edition_of w)) (heap s) (accounts_of w) (sized s false c.if-not-is_allowed.ensures)
+    verdict_length (table (edition_of w)) (heap s) (accounts_of w) (sized s false c.if-not-is_allowed.ensures)
 
 pub begin-requires : goal.begin-requires
-begin-requires c = (built_none c.args.words.now, refl)
+begin-requires c = c.empty.ensures c.args.words.now
 
 pub returns-in_default : goal.returns-in_default
-unfolding verdict_of
 returns-in_default c =
     let e = (goal.at.returns-in_default c).Else-not-is_allowed in
-    ap verdict_values c.verdict-in_default.ensures ∙ c.in_default.ensures (heap_in c.args.from c.args.size c.args.image.now) (allows e)
+    c.in_default.ensures (heap_in c.args.from c.args.size c.args.image.now) (allows e)
 
 pub walk_frames-requires : goal.walk_frames-requires
 walk_frames-requires c =
     let b = c.in-Some.ensures in
-    (omega (arith, last_given c.args.words.now b.ranged, b.last), sym c.if-not-is_allowed.ensures, walk_ready b.index b.debts)
+    (sym c.if-not-is_allowed.ensures, walk_ready b.index b.debts)
 
 -- the walk decides
 decided : (c : After-walk_frames) (t : Bool) → c.walk_frames.result ≡ t
@@ -59,11 +55,8 @@ decided c t e =
     verdict_walked b.index b.debts s a b.ranged n.edition n.kind n.last b.edition b.kind b.last t (sym e ∙ c.walk_frames.ensures)
 
 pub returns-then-not-walk_frames : goal.returns-then-not-walk_frames
-unfolding verdict_of
 returns-then-not-walk_frames c =
-    ap verdict_values c.verdict-then-not-walk_frames.ensures
-    ∙ decided (goal.at.returns-then-not-walk_frames c).After-walk_frames false c.if-not-walk_frames.true
+    decided (goal.at.returns-then-not-walk_frames c).After-walk_frames false c.if-not-walk_frames.true
 
 pub returns : goal.returns
-unfolding verdict_of
-returns c = ap verdict_values c.verdict-2.ensures ∙ decided (goal.at.returns c).After-walk_frames true c.if-not-walk_frames.false
+returns c = decided (goal.at.returns c).After-walk_frames true c.if-not-walk_frames.false

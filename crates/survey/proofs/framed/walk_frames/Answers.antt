@@ -1,4 +1,4 @@
-use Rattle.std.proofs.Common.{◌≡◌, ℕ, ◌+◌, ◌-◌, ◌*◌, ◌%◌, ◌≤◌, Bool, true, false, List, length, drop, sym, refl, ap, ◌∙◌, subst, arith, length-drop, drop-drop}
+use Rattle.std.proofs.Common.{◌≡◌, ℕ, ◌+◌, ◌-◌, ◌*◌, ◌%◌, ◌≤◌, Bool, true, false, List, length, drop, sym, ap, ◌∙◌, subst, arith, length-drop, drop-drop}
 use borrow.Author.Tests.{not-true, not-false}
 use Rattle.rounding.specs.Rounding.{table}
 use Rattle.layout.specs.Blocks.{greatest_heap, header_at}
@@ -7,7 +7,7 @@ use Rattle.framing.proofs.Padding.{length_padded}
 use Rattle.model.specs.Consistent.{allowed}
 use Rattle.survey.specs.Clauses.{Visited, judged, heap_in}
 use Rattle.survey.proofs.Headers.{header_framed, rest_place}
-use Rattle.survey.proofs.Walks.{walking_start, walking_long, walking_back, walking_fails, walking_on, walked_far, one_fails}
+use Rattle.survey.proofs.Walks.{walking_long, walking_back, walking_fails, walking_on, walked_far, one_fails}
 use Rattle.survey.proofs.Judgement.{walked_end}
 use Rattle.survey.proofs.Surveys.{allowed_range}
 use Rattle.survey.proofs.framed.walk_frames.Goals as goal
@@ -21,20 +21,7 @@ long : (c : Start) → length (heap c) ≡ c.args.size
 long c = length_padded c.args.size (drop c.args.from (stream_of c.args.image.now))
 
 most : (c : Start) → c.args.size ≤ greatest_heap
-most c = (allowed_range c.args.size c.requires.1).1
-
-pub loop-at-init : goal.loop-at-init
-loop-at-init c =
-    let s = c in
-    let a = s.args in (
-      omega arith,
-      walking_start (table a.numbers.edition) a.numbers.kind a.numbers.last (heap (goal.at.loop-at-init c).Start) (record {
-        inside =
-            omega arith;
-        even = refl;
-        ready = s.requires.2;
-      }) 0 1 refl,
-    )
+most c = (allowed_range c.args.size c.requires.0).1
 
 pub overflow_add-at : goal.overflow_add-at
 overflow_add-at c = omega (arith, most (goal.at.overflow_add-at c).Start)
@@ -64,9 +51,6 @@ read c =
 
 some-rest : (c : After-header_in-header) → 8 ≤ length (rest c)
 some-rest c = omega (arith, rest-long c, c.loop-at-test.true)
-
-pub overflow_mul-bytes : goal.overflow_mul-bytes
-overflow_mul-bytes c = omega (arith, c.header_in-header.ensures.1)
 
 pub returns-then-size-at : goal.returns-then-size-at
 unfolding judged
@@ -107,11 +91,6 @@ returns-then-header-back c =
     (some-rest (goal.at.returns-then-header-back c).After-header_in-header) (fits (goal.at.returns-then-header-back c).Else-size-at)
     (λ e. omega (arith, c.if-header-back.true))))
 
-pub overflow_add-end : goal.overflow_add-end
-overflow_add-end c =
-    let f = c in
-    omega (arith, f.if-size-at.false, most (goal.at.overflow_add-end c).Start, f.loop-at.invariant.0)
-
 -- the place is a multiple of 8
 even : (c : After-header_in-header) → c.loop-at.at % 8 ≡ 0
 even c =
@@ -123,7 +102,6 @@ visit-requires c =
     let f = c in
     let h = f in (
       h.loop-at.invariant.1.ready,
-      h.requires.0,
       omega arith,
       omega (arith, even (goal.at.visit-requires c).After-header_in-header),
       omega arith,
@@ -166,8 +144,9 @@ Answers c n t =
     let l = c.loop-at in
     let h = c.header_in-header.result in
     let v = c.visit.new in
-    Visited (table a.numbers.edition) a.numbers.kind a.numbers.last h.serial (8 * h.size) n l.before a.words.now l.heads l.links l.owed t
-    v.heads v.links v.owed v.left
+    Visited (table a.numbers.edition) a.numbers.kind a.numbers.last h.serial (8 * h.size) n l.before a.words.now l.unsettled.index.heads
+    l.unsettled.index.links l.unsettled.owed t
+    v.self.index.heads v.self.index.links v.self.owed v.self.index.left
 
 visited : (c : After-visit) (t : Bool) → c.visit.result ≡ t → Answers c (length (heap_4 c) - length (after c)) t
 visited c t e = subst (λ (n : ℕ). Answers c n t) (ended c) (subst (Answers c (end c - 0)) e c.visit.ensures)
@@ -188,8 +167,9 @@ Answers_2 c n t =
     let l = c.loop-at in
     let h = c.header_in-header.result in
     let v = c.visit.new in
-    Visited (table a.numbers.edition) a.numbers.kind a.numbers.last h.serial (8 * h.size) n l.before a.words.now l.heads l.links l.owed t
-    v.heads v.links v.owed v.left
+    Visited (table a.numbers.edition) a.numbers.kind a.numbers.last h.serial (8 * h.size) n l.before a.words.now l.unsettled.index.heads
+    l.unsettled.index.links l.unsettled.owed t
+    v.self.index.heads v.self.index.links v.self.owed v.self.index.left
 
 abbrev heap_5 : Else-not-visit → List ℕ
 heap_5 c = heap_in c.args.from c.args.size c.args.image.now
@@ -218,9 +198,6 @@ visited_2 c t e = subst (λ (n : ℕ). Answers_2 c n t) (ended_2 c) (subst (Answ
 answer : (c : Else-not-visit) → Answers_2 c (length (heap_5 c) - length (after_2 c)) true
 answer c = visited_2 c true (not-false _ c.if-not-visit.false-raw)
 
-pub loop-at-smaller : goal.loop-at-smaller
-loop-at-smaller c = omega (arith, (answer c).0, within (goal.at.loop-at-smaller c).After-visit)
-
 pub loop-at-preserved : goal.loop-at-preserved
 loop-at-preserved c =
     let v = c in
@@ -230,9 +207,6 @@ loop-at-preserved c =
           (some-rest (goal.at.loop-at-preserved c).After-header_in-header) (fits (goal.at.loop-at-preserved c).Else-size-at)
           (beyond (goal.at.loop-at-preserved c).After-visit) (answer c) (same_back (goal.at.loop-at-preserved c).After-visit),
     )
-
-pub is_settled-requires : goal.is_settled-requires
-is_settled-requires c = c.loop-at.invariant.1.ready.owed_long
 
 pub returns : goal.returns
 unfolding judged
@@ -245,5 +219,5 @@ returns c =
     let place = sym (rest_place s l.at (omega (arith, l.invariant.0, long (goal.at.returns c).Start))) in
     c.is_settled.ensures
     ∙ sym (walked_end (table a.numbers.edition) a.numbers.kind a.numbers.last s a.words.now _ (length s - length (drop l.at s)) l.back l.before
-    l.heads l.links l.owed l.left (ap allowed (long (goal.at.returns c).Start) ∙ b.requires.1)
+    l.unsettled.index.heads l.unsettled.index.links l.unsettled.owed l.unsettled.index.left (ap allowed (long (goal.at.returns c).Start) ∙ b.requires.0)
     (walked_far l.invariant.1 (ap (λ (n : ℕ). drop n s) place) (omega (arith, length-drop l.at s, long (goal.at.returns c).Start, f.loop-at-test.false))))

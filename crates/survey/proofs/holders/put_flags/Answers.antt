@@ -16,26 +16,12 @@ fits c = let w = start_found c.loop-i.at c.args.heap.now c.in-Some.header (found
 pub loop-i-init : goal.loop-i-init
 loop-i-init c =
     let a = c.args in
-    flagging_start (holds_of a.words.now) a.heap.now a.kept.now c.count.ensures
-
-pub enum_told-1 : goal.enum_told-1
-enum_told-1 c = search rules
+    flagging_start (holds_of a.words.now) a.heap.now a.kept.now c.told-kept
 
 pub returns-in_default : goal.returns-in_default
 returns-in_default c =
     let l = c in
     flagging_ended l.loop-i.invariant (sym c.start_at.ensures ∙ c.in_default.is)
-
-pub is_held-requires : goal.is_held-requires
-is_held-requires c = c.requires
-
-pub bounds-kept-i : goal.bounds-kept-i
-bounds-kept-i c =
-    let t = c in
-    omega (arith, t.loop-i.invariant.long, t.loop-i-test.true)
-
-pub overflow_add-i : goal.overflow_add-i
-overflow_add-i c = let t = c in omega (arith, t.loop-i-test.true)
 
 pub overflow_mul-at : goal.overflow_mul-at
 overflow_mul-at c = let f = fits (goal.at.overflow_mul-at c).In-Some in omega arith

@@ -1,5 +1,5 @@
--- `survey::holders::put_flags` meets its contract. The loop's invariant: the flags are put on from the walk's place (`Flagging`). Each turn meets a block that
--- ends in the heap, so the rest of the heap gets shorter.
+-- `survey::holders::put_flags` meets its contract. The loop's invariant: the flags are put on from the walk's place
+-- (`Flagging`). Each turn meets a block that ends in the heap, so the rest of the heap gets shorter.
 use Rattle.std.proofs.Common.{◌-◌, length}
 use Rattle.words.specs.Words.{holds_of}
 use Rattle.survey.proofs.Flags.{Flagging}

@@ -1,42 +1,8 @@
 use Rattle.std.proofs.Common.{◌≡◌, ℕ, ◌+◌, ◌-◌, ◌*◌, ◌<◌, List, get_or, sym, ap, ◌∙◌, arith, eqb-true}
-use mathlib.Core.Bool.{false≢true}
 use lib.Bits.{bit_or, or_add_and, and_le_l, and_le_r}
 use Rattle.lists.proofs.Bools.{by_eq}
 use Rattle.words.specs.Words.{FIRST}
 use Rattle.survey.proofs.indexing.are_blank.Goals as goal
-
-pub overflow_add-from : goal.overflow_add-from
-overflow_add-from c = omega (arith, c.requires)
-
-pub overflow_sub-from : goal.overflow_sub-from
-overflow_sub-from c = omega (arith, c.requires)
-
-pub serial_in-requires : goal.serial_in-requires
-serial_in-requires c = omega (arith, c.requires)
-
-pub returns-then-serial_in-ne0 : goal.returns-then-serial_in-ne0
-returns-then-serial_in-ne0 c e = absurd (false≢true e)
-
-pub loop-i-init : goal.loop-i-init
-loop-i-init c = (omega arith, λ e j l. absurd (omega arith))
-
-pub overflow_mul-i-end : goal.overflow_mul-i-end
-overflow_mul-i-end c = let s = c in omega (arith, s.requires)
-
-pub overflow_mul-bits : goal.overflow_mul-bits
-overflow_mul-bits c = let s = c in omega (arith, s.requires)
-
-pub overflow_add-bits : goal.overflow_add-bits
-overflow_add-bits c = let s = c in omega (arith, s.requires)
-
-pub overflow_add-bits-in-loop-i : goal.overflow_add-bits-in-loop-i
-overflow_add-bits-in-loop-i c = let s = c in omega (arith, s.requires, c.loop-i-test.true)
-
-pub offset_bounds-words-from : goal.offset_bounds-words-from
-offset_bounds-words-from c = let s = c in omega (arith, s.requires, c.loop-i-test.true)
-
-pub bounds-words-from : goal.bounds-words-from
-bounds-words-from c = let s = c in omega (arith, s.requires, c.loop-i-test.true)
 
 -- bits that come to none
 none : (a b : ℕ) → bit_or a b ≡ 0 → (a ≡ 0) × (b ≡ 0)

@@ -1,4 +1,5 @@
--- `survey::indexing::are_blank` meets its contract. The loop's invariant: where no bit was met, the words before the i-th are 0. The measure is what is left.
+-- `survey::indexing::are_blank` meets its contract. The loop's invariant: where no bit was met, the words before the
+-- i-th are 0. The measure is what is left.
 use Rattle.std.proofs.Common.{◌≡◌, ℕ, ◌+◌, ◌*◌, ◌<◌, ◌≤◌, get_or}
 use Rattle.words.specs.Words.{FIRST}
 use Rattle.survey.proofs.indexing.are_blank.Given as goal

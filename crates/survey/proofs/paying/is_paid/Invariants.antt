@@ -1,5 +1,5 @@
--- `survey::paying::is_paid` meets its contract. The loop's invariant: every debt is 0 exactly if no bit was found and every debt from place i on is 0. The
--- measure is what is left of the table.
+-- `survey::paying::is_paid` meets its contract. The loop's invariant: every debt is 0 exactly if no bit was found and
+-- every debt from place i on is 0. The measure is what is left of the table.
 use Rattle.std.proofs.Common.{◌≡◌, ◌≤◌, ◌&&◌, eqb, drop}
 use Rattle.accounts.specs.Accounts.{QUOTAS}
 use Rattle.audit.specs.Audit.{all_zero}

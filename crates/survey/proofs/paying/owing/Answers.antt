@@ -1,18 +1,11 @@
-use Rattle.std.proofs.Common.{◌≡◌, ℕ, ◌%◌, ◌≤◌, Bool, cond, ◌&&◌, ltb, leb, get_or, sym, ap, ◌∙◌, arith, eq-eqb, ne_eqb}
-use mathlib.Core.Bool.{false≢true}
+use Rattle.std.proofs.Common.{◌≡◌, ℕ, ◌%◌, ◌≤◌, Bool, cond, ◌&&◌, ltb, leb, get_or, sym, ap, ◌∙◌, arith, eq-eqb}
 use lib.Bits.{bit_or, or_mod}
 use Rattle.accounts.specs.declared.Quota.{Quota}
 use Rattle.accounts.specs.Accounts.{QUOTAS, zero_quota}
 use Rattle.words.specs.Words.{quotas_of}
 use Rattle.words.proofs.Words.{quotas_long, quotas_at}
-use Rattle.survey.proofs.Debts.{tallied_start, tallied_more, tallied_end, tallied_dues}
+use Rattle.survey.proofs.Debts.{tallied_more, tallied_end, tallied_dues}
 use Rattle.survey.proofs.paying.owing.Goals as goal
-
-pub loop-i-init : goal.loop-i-init
-loop-i-init c = tallied_start (quotas_of c.args.words.now) c.requires
-
-pub bounds-owed-i : goal.bounds-owed-i
-bounds-owed-i c = let t = c in omega (arith, t.loop-i-test.true, t.loop-i.invariant.long)
 
 pub loop-i-preserved : goal.loop-i-preserved
 loop-i-preserved c =
@@ -33,15 +26,6 @@ loop-i-preserved c =
     (c.short_at-short.ensures ∙ (λ j. cond (ltb (grant j) (remainder j)) 1 l.loop-i.short))
     (or_mod l.loop-i.bits p.spare_in-spare.result 8 ∙ ap (bit_or (l.loop-i.bits % 256)) permissions)
     (λ h. omega (arith, w.saturating_sub-due.ensures, grant, remainder))
-
-pub returns-then-short-ne0 : goal.returns-then-short-ne0
-returns-then-short-ne0 c =
-    let l = c in
-    let ws = l.args.words.now in (
-      sym (tallied_end l.loop-i.invariant (quotas_long ws) (omega (arith, c.loop-i-test.false))
-          ∙ ap (λ (b : Bool). b && leb (l.loop-i.bits % 256) 7) (ne_eqb l.loop-i.short 0 c.if-short-ne0.true)),
-      λ e. absurd (false≢true e),
-    )
 
 pub returns : goal.returns
 returns c =

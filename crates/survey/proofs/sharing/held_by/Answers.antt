@@ -1,10 +1,10 @@
--- `survey::sharing::held_by` meets its contract: the index tells whether every record is well-formed, and where they are, the counts are the definition's.
+-- `survey::sharing::held_by` meets its contract: the index tells whether every record is well-formed, and where they
+-- are, the counts are the definition's.
 use Rattle.survey.specs.Shares.{holdings}
-use Rattle.survey.proofs.Building.{built_none}
 use Rattle.survey.proofs.sharing.held_by.Goals as goal
 
-pub index-requires : goal.index-requires
-index-requires c = (c.used_top-top.ensures.0, c.used_top-top.ensures.1, built_none c.args.words.now)
+pub enter_all-requires : goal.enter_all-requires
+enter_all-requires c = (c.used_top-top.ensures.0, c.used_top-top.ensures.1, c.empty-index.ensures c.args.words.now)
 
 pub returns-in_default : goal.returns-in_default
 unfolding holdings

@@ -4,18 +4,9 @@ use Rattle.accounts.specs.Accounts.{zero_hold}
 use Rattle.words.specs.Words.{holds_of}
 use Rattle.words.proofs.Words.{holds_long, holds_at}
 use Rattle.survey.specs.Shares.{one_if, is_own, is_shared}
-use Rattle.survey.proofs.Counting.{Counted, counted_start, counted_next, counted_all}
+use Rattle.survey.proofs.Counting.{Counted, counted_next, counted_all}
 use Rattle.survey.proofs.sharing.held_in.Goals as goal
 use Rattle.survey.proofs.sharing.held_in.Goals.{After-own_at-objects, After-shared_at-shared}
-
-pub loop-i-init : goal.loop-i-init
-loop-i-init c =
-    let a = c.args in
-    let hs = holds_of a.words.now in
-    (counted_start (is_own a.quota) hs zero_hold, counted_start (is_shared hs a.quota) hs zero_hold)
-
-pub own_at-objects-requires : goal.own_at-objects-requires
-own_at-objects-requires c = (c.loop-i-test.true, c.requires.1)
 
 next-own : (c : After-own_at-objects)
     → let l = c in let a = l.args in
@@ -38,15 +29,6 @@ next-shared c =
     let t = c.loop-i-test.true in
     counted_next (is_shared (holds_of w) a.quota) (holds_of w) zero_hold l.loop-i.invariant.1 (omega (arith, holds_long w, t)) c.shared_at-shared.result
     (c.shared_at-shared.ensures ∙ ap (λ (h : Hold). one_if (is_shared (holds_of w) a.quota h)) (sym (holds_at w l.loop-i.i t)))
-
-pub overflow_add-objects : goal.overflow_add-objects
-overflow_add-objects c = let n = next-own c in omega (arith, n.few, c.loop-i-test.true)
-
-pub shared_at-shared-requires : goal.shared_at-shared-requires
-shared_at-shared-requires c = let p = c.requires in (c.loop-i-test.true, p.0, p.1)
-
-pub overflow_add-shared : goal.overflow_add-shared
-overflow_add-shared c = let n = next-shared c in omega (arith, n.few, c.loop-i-test.true)
 
 pub loop-i-preserved : goal.loop-i-preserved
 loop-i-preserved c = (next-own (goal.at.loop-i-preserved c).After-own_at-objects, next-shared c)

@@ -1,4 +1,5 @@
--- `survey::sharing::own_at` meets its contract: a record without a serial is unused, and any other is the quota's own by its number.
+-- `survey::sharing::own_at` meets its contract: a record without a serial is unused, and any other is the quota's own
+-- by its number.
 use Rattle.std.proofs.Common.{sym, ap, ◌∙◌}
 use Rattle.survey.specs.Shares.{one_if}
 use Rattle.survey.proofs.Owning.{own_unused, own_yes, own_no}

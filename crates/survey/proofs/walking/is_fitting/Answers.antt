@@ -1,8 +1,7 @@
--- `survey::walking::is_fitting` meets its contract: the difference wraps for a block that is too short, and is great then; a short object has unit 8; else a
--- length is
--- a multiple of its unit exactly if it is one of the unit by its leading zeros, and then the tests are the definition's.
+-- `survey::walking::is_fitting` meets its contract: the difference wraps for a block that is too short, and is great
+-- then; a short object has unit 8; else a length is a multiple of its unit exactly if it is one of the unit by its
+-- leading zeros, and then the tests are the definition's.
 use Rattle.std.proofs.Common.{◌≡◌, ℕ, ◌-◌, ◌%◌, sym, refl, ap, ◌∙◌, arith}
-use borrow.Author.Tests.{lt-leb}
 use Rattle.rounding.specs.Rounding.{table}
 use Rattle.rounding.proofs.Editions.{table_short}
 use Rattle.rounding.proofs.ByZeros.{zeros_unit, fits_by_zeros, zeros_positive}
@@ -16,9 +15,6 @@ returns-then-wrapping_sub_usize-lt-SHORT c =
     let w = c.wrapping_sub_usize.ensures in
     let u : 8 ≡ table a.edition (a.size - 8) = sym (table_short a.edition (a.size - 8) (omega (arith, w, p.0))) in
     sym (fits_eights (table a.edition) a.size a.end 8 p.2 u (omega (arith, w)) refl p.0 p.1)
-
-pub returns-then-size-lt16 : goal.returns-then-size-lt16
-returns-then-size-lt16 c = rw (lt-leb 16 c.args.size c.if-size-lt16.true)
 
 pub nonzero_rem-length : goal.nonzero_rem-length
 nonzero_rem-length c =
@@ -34,11 +30,6 @@ returns-then-length-unit-ne0 c =
     λ z. u.object_unit-unit.ensures ∙ zeros_unit s.args.edition n (omega (arith, s.requires.3)) z
     in
     sym (length_unfit (table s.args.edition) s.args.size s.args.end (λ z. omega (arith, ap (λ (k : ℕ). n % k) (own z), z, c.if-length-unit-ne0.true)))
-
-pub nonzero_rem-result : goal.nonzero_rem-result
-nonzero_rem-result c =
-    let a = c.args in
-    omega (arith, c.object_unit-unit.ensures, zeros_positive a.edition (a.size - 8))
 
 pub returns : goal.returns
 returns c =

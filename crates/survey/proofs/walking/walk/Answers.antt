@@ -1,4 +1,4 @@
-use Rattle.std.proofs.Common.{◌≡◌, ℕ, ◌-◌, ◌*◌, ◌<◌, ◌≤◌, Bool, true, false, cond, List, length, take, drop, sym, refl, ap, ◌∙◌, subst, arith, length-drop}
+use Rattle.std.proofs.Common.{◌≡◌, ℕ, ◌-◌, ◌*◌, ◌≤◌, Bool, true, false, cond, List, length, take, drop, sym, refl, ap, ◌∙◌, subst, arith, length-drop}
 use Rattle.std.proofs.Common.{rules}
 use borrow.Author.Tests.{not-true, not-false}
 use borrow.Author.Rules.{part_to_end}
@@ -16,39 +16,27 @@ use Rattle.survey.proofs.walking.walk.Goals as goal
 use Rattle.survey.proofs.walking.walk.Goals.{After-header_at-header, After-visit, Else-not-visit}
 use Rattle.survey.proofs.walking.walk.Invariants.{Whole}
 
-pub slice_bounds-rest-count : goal.slice_bounds-rest-count
-slice_bounds-rest-count c = c.requires.4.inside
-
-pub slice_bounds-rest-start : goal.slice_bounds-rest-start
-slice_bounds-rest-start c = let i = c.requires.4.inside in search rules
-
-pub slice_bounds-rest-end : goal.slice_bounds-rest-end
-slice_bounds-rest-end c = let i = c.requires.4.inside in search rules
-
 pub loop-rest-init : goal.loop-rest-init
 loop-rest-init c =
     let s = c in
     let a = s.args in
     let z = part_to_end a.heap.now a.from.at in
-    let i = s.requires.4.inside in
+    let i = s.requires.1.inside in
     let same : a.from.at ≡ length a.heap.now - length (drop a.from.at a.heap.now) = omega (arith, i, length-drop a.from.at a.heap.now) in (
-      walking_start (table a.numbers.edition) a.numbers.kind a.numbers.last a.heap.now s.requires.4 a.from.back a.from.before z,
+      walking_start (table a.numbers.edition) a.numbers.kind a.numbers.last a.heap.now s.requires.1 a.from.back a.from.before z,
       suffix_start a.heap.now i z,
       λ r.
-          subst (λ (x : ℕ). Passed a.heap.now a.edge a.unit a.from.at a.from.fit a.from.need x a.from.back a.from.before a.from.fit
+          subst (λ (x : ℕ). Passed a.heap.now a.edge a.unit.bytes a.from.at a.from.fit a.from.need x a.from.back a.from.before a.from.fit
           a.from.need)
           (same ∙ ap (λ (t : List ℕ). length a.heap.now - length t) (sym z))
-          (passed_start a.edge a.unit a.from.back a.from.before a.from.fit a.from.need r),
+          (passed_start a.edge a.unit.bytes a.from.back a.from.before a.from.fit a.from.need r),
     )
 
 read : (c : After-header_at-header) → header_at 0 c.loop-rest.rest.now ≡ c.header_at-header.result
 read c = sym c.header_at-header.ensures.0
 
 some-rest : (c : After-header_at-header) → 8 ≤ length c.loop-rest.rest.now
-some-rest c = omega (arith, c.loop-rest-test.true, c.requires.1)
-
-pub overflow_mul-size : goal.overflow_mul-size
-overflow_mul-size c = omega (arith, c.header_at-header.ensures.1)
+some-rest c = omega (arith, c.loop-rest-test.true, c.requires.0)
 
 pub returns-then-rest-size : goal.returns-then-rest-size
 unfolding judged
@@ -62,13 +50,13 @@ returns-then-header-back c =
     let h = (goal.at.returns-then-header-back c).After-header_at-header in
     one_fails _ _ (walking_back c.loop-rest.invariant.0 (read h) (some-rest h) c.if-rest-size.false (λ e. omega (arith, c.if-header-back.true)))
 
+-- by hand, so that the must-fail edit falls at this fact
 pub visit-requires : goal.visit-requires
 visit-requires c =
     let f = c in
     let h = f in
     let l = h.loop-rest.invariant.0 in (
       l.ready,
-      h.requires.0,
       omega arith,
       omega (arith, l.even, l.inside, f.if-rest-size.false),
       omega (arith, l.inside, f.if-rest-size.false),
@@ -93,7 +81,7 @@ Answers c t =
     let h = c.header_at-header.result in
     let v = c.visit.new in
     Visited (table a.numbers.edition) a.numbers.kind a.numbers.last h.serial (8 * h.size) (length a.heap.now - length (after c)) l.before
-    a.words.now l.heads l.links l.owed t v.heads v.links v.owed v.left
+    a.words.now l.unsettled.index.heads l.unsettled.index.links l.unsettled.owed t v.self.index.heads v.self.index.links v.self.owed v.self.index.left
 
 visited : (c : After-visit) (t : Bool) → c.visit.result ≡ t → Answers c t
 visited c t e = subst (Answers c) e c.visit.ensures
@@ -117,7 +105,7 @@ Answers_2 c t =
     let h = c.header_at-header.result in
     let v = c.visit.new in
     Visited (table a.numbers.edition) a.numbers.kind a.numbers.last h.serial (8 * h.size) (length a.heap.now - length (after_2 c)) l.before
-    a.words.now l.heads l.links l.owed t v.heads v.links v.owed v.left
+    a.words.now l.unsettled.index.heads l.unsettled.index.links l.unsettled.owed t v.self.index.heads v.self.index.links v.self.owed v.self.index.left
 
 visited_2 : (c : Else-not-visit) (t : Bool) → c.visit.result ≡ t → Answers_2 c t
 visited_2 c t e = subst (Answers_2 c) e c.visit.ensures
@@ -142,31 +130,8 @@ ends c =
       v.if-rest-size.false,
     )
 
--- the rest behind it is a part of the heap, and shorter than the rest before it
-part : (c : Else-not-visit) → length (after_2 c) ≤ length c.args.heap.now
-part c =
-    let v = c in
-    let h = v in
-    omega (
-      arith,
-      ap length (beyond_2 c) ∙ length-drop (8 * h.header_at-header.result.size) h.loop-rest.rest.now,
-      h.loop-rest.invariant.0.inside,
-    )
-
 some-rest_2 : (c : Else-not-visit) → 8 ≤ length c.loop-rest.rest.now
-some-rest_2 c = omega (arith, c.loop-rest-test.true, c.requires.1)
-
-shorter : (c : Else-not-visit) → length (after_2 c) < length c.loop-rest.rest.now
-shorter c =
-    let v = c in
-    let w = answer c in
-    omega (
-      arith,
-      ap length (beyond_2 c) ∙ length-drop (8 * v.header_at-header.result.size) v.loop-rest.rest.now,
-      w.0,
-      some-rest_2 c,
-      v.if-rest-size.false,
-    )
+some-rest_2 c = omega (arith, c.loop-rest-test.true, c.requires.0)
 
 -- the loop's invariant behind a block, by whether it has room
 abbrev Again : Else-not-visit → ℕ → ℕ → Type 0
@@ -174,17 +139,17 @@ Again c fit need =
     let v = c in
     let h = v in
     let a = h.args in
-    let l = v.visit.new in
+    let l = v.visit.new.self in
     let n = h.header_at-header.result in
     Walking (table a.numbers.edition) a.numbers.kind a.numbers.last a.heap.now a.words.now
     (Whole a.heap.now a.numbers.last a.from.at a.from.back a.from.before
-    (keys_left a.words.now a.heads.now a.links.now) a.owed.now)
+    (keys_left a.words.now a.unsettled.now.index.heads a.unsettled.now.index.links) a.unsettled.now.owed)
     (fitting (table a.numbers.edition) a.numbers.kind a.from.at (cut a.from.back (drop a.from.at a.heap.now)))
-    l.heads l.links l.owed l.left
+    l.index.heads l.index.links l.owed l.index.left
     n.serial n.size (after_2 c)
     × (after_2 c ≡ drop (length a.heap.now - length (after_2 c)) a.heap.now)
     × (Reaches a.heap.now a.from.at
-    → Passed a.heap.now a.edge a.unit a.from.at a.from.fit a.from.need
+    → Passed a.heap.now a.edge a.unit.bytes a.from.at a.from.fit a.from.need
     (length a.heap.now - length (after_2 c)) n.size n.serial fit need)
 
 read_2 : (c : Else-not-visit) → header_at 0 c.loop-rest.rest.now ≡ c.header_at-header.result
@@ -195,7 +160,7 @@ same_back_2 c = omega (arith, c.if-header-back.false)
 
 again : (c : Else-not-visit) (room : Bool) {fit need : ℕ}
     → let h = c in let l = h.loop-rest in let n = h.header_at-header.result in
-    room ≡ has_room h.args.unit l.need
+    room ≡ has_room h.args.unit.bytes l.need
     (headed (length h.args.heap.now - length h.loop-rest.rest.now) n)
     → fit ≡ cond room (length h.args.heap.now - length h.loop-rest.rest.now) l.fit
     → need ≡ cond room TAKEN l.need → Again c fit need
@@ -209,61 +174,26 @@ again e room x y z =
       λ r.
           passed_on a.heap.now h.loop-rest.rest.now l.invariant.0.inside l.invariant.1 (read_2 e) (omega (arith, (answer e).0))
           v.if-rest-size.false
-          h.requires.2 (l.invariant.2 r) h.loop-rest-test.true h.header_at-header.ensures.1 (beyond_2 e)
+          h.args.unit.some (l.invariant.2 r) h.loop-rest-test.true h.header_at-header.ensures.1 (beyond_2 e)
           x y z,
     )
-
--- a live block has no room
-pub loop-rest-smaller : goal.loop-rest-smaller
-loop-rest-smaller c = shorter (goal.at.loop-rest-smaller c).Else-not-visit
 
 pub loop-rest-preserved : goal.loop-rest-preserved
 loop-rest-preserved c =
     let l = c.loop-rest in
     again (goal.at.loop-rest-preserved c).Else-not-visit false
-    (sym (full c.args.unit l.need (length c.args.heap.now - length l.rest.now) c.header_at-header.result c.if-serial-eq0.false))
+    (sym (full c.args.unit.bytes l.need (length c.args.heap.now - length l.rest.now) c.header_at-header.result c.if-serial-eq0.false))
     refl refl
-
--- a free one may have
-pub overflow_sub-end : goal.overflow_sub-end
-overflow_sub-end c = part (goal.at.overflow_sub-end c).Else-not-visit
-
--- the block's size, and the heap's bytes up to its end
-up-to : (c : Else-not-visit) → 8 * c.header_at-header.result.size ≤ length c.args.heap.now - length (after_2 c)
-up-to c =
-    omega (
-      arith,
-      ap length (beyond_2 c) ∙ length-drop (8 * c.header_at-header.result.size) c.loop-rest.rest.now,
-      c.loop-rest.invariant.0.inside,
-      c.if-rest-size.false,
-    )
-
-pub is_roomy-requires : goal.is_roomy-requires
-is_roomy-requires c =
-    let e = (goal.at.is_roomy-requires c).Else-not-visit in
-    (c.requires.2, c.requires.3, (answer e).0, up-to e, omega (arith, c.header_at-header.ensures.1))
-
-pub overflow_sub-fit : goal.overflow_sub-fit
-overflow_sub-fit c = up-to (goal.at.overflow_sub-fit c).Else-not-visit
-
-pub loop-rest-smaller-then-is_roomy : goal.loop-rest-smaller-then-is_roomy
-loop-rest-smaller-then-is_roomy c = shorter (goal.at.loop-rest-smaller-then-is_roomy c).Else-not-visit
 
 pub loop-rest-preserved-then-is_roomy : goal.loop-rest-preserved-then-is_roomy
 loop-rest-preserved-then-is_roomy c =
     let e = (goal.at.loop-rest-preserved-then-is_roomy c).Else-not-visit in
-    again e true (sym c.if-is_roomy.true ∙ c.is_roomy.ensures ∙ room_same c.args.unit c.loop-rest.need c.header_at-header.result (ends e)) (ends e) refl
-
-pub loop-rest-smaller-else-is_roomy : goal.loop-rest-smaller-else-is_roomy
-loop-rest-smaller-else-is_roomy c = shorter (goal.at.loop-rest-smaller-else-is_roomy c).Else-not-visit
+    again e true (sym c.if-is_roomy.true ∙ c.is_roomy.ensures ∙ room_same c.args.unit.bytes c.loop-rest.need c.header_at-header.result (ends e)) (ends e) refl
 
 pub loop-rest-preserved-else-is_roomy : goal.loop-rest-preserved-else-is_roomy
 loop-rest-preserved-else-is_roomy c =
     let e = (goal.at.loop-rest-preserved-else-is_roomy c).Else-not-visit in
-    again e false (sym c.if-is_roomy.false ∙ c.is_roomy.ensures ∙ room_same c.args.unit c.loop-rest.need c.header_at-header.result (ends e)) refl refl
-
-pub overflow_sub-result : goal.overflow_sub-result
-overflow_sub-result c = c.loop-rest.invariant.0.inside
+    again e false (sym c.if-is_roomy.false ∙ c.is_roomy.ensures ∙ room_same c.args.unit.bytes c.loop-rest.need c.header_at-header.result (ends e)) refl refl
 
 pub returns : goal.returns
 unfolding judged

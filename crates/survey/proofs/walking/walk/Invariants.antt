@@ -19,12 +19,13 @@ Whole heap last at units before keys owed = audit_parsed last (cut units (drop a
 abbrev pub invariant-loop-rest : goal.invariant-loop-rest
 invariant-loop-rest l =
     Walking (table l.numbers.edition) l.numbers.kind l.numbers.last l.heap l.words (Whole l.heap l.numbers.last l.fn.from.at l.fn.from.back
-    l.fn.from.before (keys_left l.words l.initial.heads l.initial.links)
-    l.initial.owed)
-    (fitting (table l.numbers.edition) l.numbers.kind l.fn.from.at (cut l.fn.from.back (drop l.fn.from.at l.heap))) l.heads l.links l.owed
-    l.left l.before l.back l.rest
+    l.fn.from.before (keys_left l.words l.initial.unsettled.index.heads l.initial.unsettled.index.links)
+    l.initial.unsettled.owed)
+    (fitting (table l.numbers.edition) l.numbers.kind l.fn.from.at (cut l.fn.from.back (drop l.fn.from.at l.heap))) l.unsettled.index.heads
+    l.unsettled.index.links l.unsettled.owed
+    l.unsettled.index.left l.before l.back l.rest
     × (l.rest ≡ drop (length l.heap - length l.rest) l.heap)
-    × (Reaches l.heap l.fn.from.at → Passed l.heap l.edge l.unit l.fn.from.at l.fn.from.fit l.fn.from.need (length l.heap - length l.rest)
+    × (Reaches l.heap l.fn.from.at → Passed l.heap l.edge l.unit.bytes l.fn.from.at l.fn.from.fit l.fn.from.need (length l.heap - length l.rest)
     l.back l.before l.fit l.need)
 
 abbrev pub decreases-loop-rest : goal.decreases-loop-rest

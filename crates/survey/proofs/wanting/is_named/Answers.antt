@@ -2,37 +2,38 @@
 use Rattle.std.proofs.Common.{sym, arith}
 use Rattle.lookup.proofs.Reached.{before_block}
 use Rattle.survey.proofs.Naming.{named_free, named_other, named_waiting, named_empty, named_by_end}
+use Rattle.survey.specs.Survey.{handle_of}
 use Rattle.survey.proofs.wanting.is_named.Goals as goal
 
-pub returns-then-before-eq0 : goal.returns-then-before-eq0
-returns-then-before-eq0 c =
+pub returns-then-block-eq0 : goal.returns-then-block-eq0
+returns-then-block-eq0 c =
     let a = c.args in
-    sym (named_free (record { base = a.base; length = a.length; serial = a.serial }) (record { at = a.at; size = a.size; back = 0; serial = a.before })
-    c.if-before-eq0.true)
+    sym (named_free (handle_of a.wanted) a.block
+    c.if-block-eq0.true)
 
-pub returns-then-serial-before : goal.returns-then-serial-before
-returns-then-serial-before c =
+pub returns-then-wanted-block : goal.returns-then-wanted-block
+returns-then-wanted-block c =
     let a = c.args in
-    sym (named_other (record { base = a.base; length = a.length; serial = a.serial }) (record { at = a.at; size = a.size; back = 0; serial = a.before })
-    c.if-serial-before.true)
+    sym (named_other (handle_of a.wanted) a.block
+    c.if-wanted-block.true)
 
-pub returns-then-before-eq-QUARANTINED : goal.returns-then-before-eq-QUARANTINED
-returns-then-before-eq-QUARANTINED c =
+pub returns-then-block-eq-QUARANTINED : goal.returns-then-block-eq-QUARANTINED
+returns-then-block-eq-QUARANTINED c =
     let a = c.args in
-    sym (named_waiting (record { base = a.base; length = a.length; serial = a.serial }) (record { at = a.at; size = a.size; back = 0; serial = a.before })
-    c.if-before-eq-QUARANTINED.true)
+    sym (named_waiting (handle_of a.wanted) a.block
+    c.if-block-eq-QUARANTINED.true)
 
-pub returns-then-length-eq0 : goal.returns-then-length-eq0
-returns-then-length-eq0 c =
+pub returns-then-wanted-eq0 : goal.returns-then-wanted-eq0
+returns-then-wanted-eq0 c =
     let a = c.args in
-    sym (named_empty (record { base = a.base; length = a.length; serial = a.serial }) (record { at = a.at; size = a.size; back = 0; serial = a.before })
-    c.if-length-eq0.true)
+    sym (named_empty (handle_of a.wanted) a.block
+    c.if-wanted-eq0.true)
 
-pub returns-then-from-at : goal.returns-then-from-at
-returns-then-from-at c =
+pub returns-then-from-block : goal.returns-then-from-block
+returns-then-from-block c =
     let a = c.args in
-    sym (before_block (record { base = a.base; length = a.length; serial = a.serial }) (record { at = a.at; size = a.size; back = 0; serial = a.before })
-    (omega (arith, c.if-from-at.true)))
+    sym (before_block (handle_of a.wanted) a.block
+    (omega (arith, c.if-from-block.true)))
 
 pub returns : goal.returns
 returns c =
@@ -41,6 +42,6 @@ returns c =
     let o = q in
     let f = o in
     let a = f.args in
-    named_by_end (record { base = a.base; length = a.length; serial = a.serial }) (record { at = a.at; size = a.size; back = 0; serial = a.before })
-    f.if-before-eq0.false q.if-before-eq-QUARANTINED.false o.if-serial-before.false l.if-length-eq0.false
-    (omega (arith, c.if-from-at.false))
+    named_by_end (handle_of a.wanted) a.block
+    f.if-block-eq0.false q.if-block-eq-QUARANTINED.false o.if-wanted-block.false l.if-wanted-eq0.false
+    (omega (arith, c.if-from-block.false))

@@ -1,7 +1,6 @@
 -- `heap::in_place::perform` meets its contract: each arm makes the call of its name, whose promise is the definition
 -- that `step` gives for it.
 use mathlib.Core.Path.{ap}
-use Rattle.words.proofs.Padding.{padded_same}
 use Rattle.model.specs.Answers.{answer_of}
 use Rattle.model.specs.Step.{step}
 use Rattle.model.specs.declared.Answer.TheVariants.{Handle, Amount, Range, Verdict, Block}
@@ -9,134 +8,62 @@ use Rattle.model.proofs.Answers.{verdict_back, handle_back, amount_back, range_b
 use Rattle.heap.proofs.InPlace.{made}
 use Rattle.heap.proofs.in_place.performing.perform.Goals as goal
 
-pub returns-in-Allocate : goal.returns-in-Allocate
+pub returns-in-Allocate-clause-holds : goal.returns-in-Allocate-clause-holds
 unfolding step answer_of
-returns-in-Allocate c =
-    let r = c.allocate in
-    let x = c in
-    let a = x.args in
-    record {
-      holds = made a.words.now a.heap.now x.in-Allocate.is (ap Handle (handle_back r.result)) r.ensures.holds;
-      pads = r.ensures.pads;
-    }
+returns-in-Allocate-clause-holds c =
+    made c.args.words.now c.args.heap.now c.in-Allocate.is (ap Handle (handle_back c.allocate.result)) c.allocate.ensures.holds
 
-pub returns-in-AllocateArray : goal.returns-in-AllocateArray
+pub returns-in-AllocateArray-clause-holds : goal.returns-in-AllocateArray-clause-holds
 unfolding step answer_of
-returns-in-AllocateArray c =
-    let r = c.allocate_array in
-    let x = c in
-    let a = x.args in
-    record {
-      holds = made a.words.now a.heap.now x.in-AllocateArray.is (ap Handle (handle_back r.result)) r.ensures.holds;
-      pads = r.ensures.pads;
-    }
+returns-in-AllocateArray-clause-holds c =
+    made c.args.words.now c.args.heap.now c.in-AllocateArray.is (ap Handle (handle_back c.allocate_array.result)) c.allocate_array.ensures.holds
 
-pub returns-in-Claim : goal.returns-in-Claim
+pub returns-in-Claim-clause-holds : goal.returns-in-Claim-clause-holds
 unfolding step answer_of
-returns-in-Claim c =
-    let r = c.claim in
-    let x = c in
-    let a = x.args in
-    record {
-      holds = made a.words.now a.heap.now x.in-Claim.is (ap Amount (amount_back r.result)) r.ensures.holds;
-      pads = r.ensures.pads;
-    }
+returns-in-Claim-clause-holds c =
+    made c.args.words.now c.args.heap.now c.in-Claim.is (ap Amount (amount_back c.claim.result)) c.claim.ensures.holds
 
-pub returns-in-Release : goal.returns-in-Release
+pub returns-in-Release-clause-holds : goal.returns-in-Release-clause-holds
 unfolding step answer_of
-returns-in-Release c =
-    let r = c.release in
-    let x = c in
-    let a = x.args in
-    record {
-      holds = made a.words.now a.heap.now x.in-Release.is (ap Amount (amount_back r.result)) r.ensures.holds;
-      pads = r.ensures.pads;
-    }
+returns-in-Release-clause-holds c =
+    made c.args.words.now c.args.heap.now c.in-Release.is (ap Amount (amount_back c.release.result)) c.release.ensures.holds
 
-pub returns-in-FreeAll : goal.returns-in-FreeAll
+pub returns-in-FreeAll-clause-holds : goal.returns-in-FreeAll-clause-holds
 unfolding step answer_of
-returns-in-FreeAll c =
-    let r = c.free_all in
-    let x = c in
-    let a = x.args in
-    record {
-      holds = made a.words.now a.heap.now x.in-FreeAll.is (ap Amount (amount_back r.result)) r.ensures.holds;
-      pads = r.ensures.pads;
-    }
+returns-in-FreeAll-clause-holds c =
+    made c.args.words.now c.args.heap.now c.in-FreeAll.is (ap Amount (amount_back c.free_all.result)) c.free_all.ensures.holds
 
-pub returns-in-Sweep : goal.returns-in-Sweep
+pub returns-in-Sweep-clause-holds : goal.returns-in-Sweep-clause-holds
 unfolding step answer_of
-returns-in-Sweep c =
-    let r = c.sweep in
-    let x = c in
-    let a = x.args in
-    record {
-      holds = made a.words.now a.heap.now x.in-Sweep.is (ap Amount (amount_back r.result)) r.ensures;
-      pads = padded_same a.words.now;
-    }
+returns-in-Sweep-clause-holds c =
+    made c.args.words.now c.args.heap.now c.in-Sweep.is (ap Amount (amount_back c.sweep.result)) c.sweep.ensures
 
-pub returns-in-Reallocate : goal.returns-in-Reallocate
+pub returns-in-Reallocate-clause-holds : goal.returns-in-Reallocate-clause-holds
 unfolding step answer_of
-returns-in-Reallocate c =
-    let r = c.reallocate in
-    let x = c in
-    let a = x.args in
-    record {
-      holds = made a.words.now a.heap.now x.in-Reallocate.is (ap Handle (handle_back r.result)) r.ensures.holds;
-      pads = r.ensures.pads;
-    }
+returns-in-Reallocate-clause-holds c =
+    made c.args.words.now c.args.heap.now c.in-Reallocate.is (ap Handle (handle_back c.reallocate.result)) c.reallocate.ensures.holds
 
-pub returns-in-Lend : goal.returns-in-Lend
+pub returns-in-Lend-clause-holds : goal.returns-in-Lend-clause-holds
 unfolding step answer_of
-returns-in-Lend c =
-    let r = c.object_range in
-    let x = c in
-    let a = x.args in
-    record {
-      holds = made a.words.now a.heap.now x.in-Lend.is (ap Range (range_back r.result)) r.ensures;
-      pads = padded_same a.words.now;
-    }
+returns-in-Lend-clause-holds c =
+    made c.args.words.now c.args.heap.now c.in-Lend.is (ap Range (range_back c.object_range.result)) c.object_range.ensures
 
-pub returns-in-Remaining : goal.returns-in-Remaining
+pub returns-in-Remaining-clause-holds : goal.returns-in-Remaining-clause-holds
 unfolding step answer_of
-returns-in-Remaining c =
-    let r = c.remaining in
-    let x = c in
-    let a = x.args in
-    record {
-      holds = made a.words.now a.heap.now x.in-Remaining.is (ap Amount (amount_back r.result)) r.ensures;
-      pads = padded_same a.words.now;
-    }
+returns-in-Remaining-clause-holds c =
+    made c.args.words.now c.args.heap.now c.in-Remaining.is (ap Amount (amount_back c.remaining.result)) c.remaining.ensures
 
-pub returns-in-CanRelease : goal.returns-in-CanRelease
+pub returns-in-CanRelease-clause-holds : goal.returns-in-CanRelease-clause-holds
 unfolding step answer_of
-returns-in-CanRelease c =
-    let r = c.can_release in
-    let x = c in
-    let a = x.args in
-    record {
-      holds = made a.words.now a.heap.now x.in-CanRelease.is (ap Verdict (verdict_back r.result)) r.ensures;
-      pads = padded_same a.words.now;
-    }
+returns-in-CanRelease-clause-holds c =
+    made c.args.words.now c.args.heap.now c.in-CanRelease.is (ap Verdict (verdict_back c.can_release.result)) c.can_release.ensures
 
-pub returns-in-ListBlock : goal.returns-in-ListBlock
+pub returns-in-ListBlock-clause-holds : goal.returns-in-ListBlock-clause-holds
 unfolding step answer_of
-returns-in-ListBlock c =
-    let r = c.list_block in
-    let x = c in
-    let a = x.args in
-    record {
-      holds = made a.words.now a.heap.now x.in-ListBlock.is (ap Block (block_back r.result)) r.ensures;
-      pads = padded_same a.words.now;
-    }
+returns-in-ListBlock-clause-holds c =
+    made c.args.words.now c.args.heap.now c.in-ListBlock.is (ap Block (block_back c.list_block.result)) c.list_block.ensures
 
-pub returns-in-ClearPermissions : goal.returns-in-ClearPermissions
+pub returns-in-ClearPermissions-clause-holds : goal.returns-in-ClearPermissions-clause-holds
 unfolding step answer_of
-returns-in-ClearPermissions c =
-    let r = c.clear_permissions in
-    let x = c in
-    let a = x.args in
-    record {
-      holds = made a.words.now a.heap.now x.in-ClearPermissions.is (ap Amount (amount_back r.result)) r.ensures.holds;
-      pads = r.ensures.pads;
-    }
+returns-in-ClearPermissions-clause-holds c =
+    made c.args.words.now c.args.heap.now c.in-ClearPermissions.is (ap Amount (amount_back c.clear_permissions.result)) c.clear_permissions.ensures.holds

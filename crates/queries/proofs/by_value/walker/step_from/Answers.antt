@@ -1,6 +1,6 @@
 -- `queries::by_value::step_from` meets its contract: the block that the listing gives ends in the heap, and where none is given the place stays.
-use Rattle.std.specs.Prelude.{Option, Some, None, Result, Ok, Err}
-use mathlib.Core.Path.{◌≡◌, refl, ap, subst, sym, ◌∙◌}
+use Rattle.std.specs.Prelude.{Option, Some, Result, Ok}
+use mathlib.Core.Path.{◌≡◌, ap, subst, sym, ◌∙◌}
 use Prim.Native.Nat.{◌+◌, ◌≤◌}
 use native.Mathlib.Omega.{arith}
 use lib.ListN.{length}
