@@ -141,12 +141,15 @@ BY_VALUE = {
 PAIRS = {
     "rounding": "first_unit/second_unit FIRST_POWERS/SECOND_POWERS",
     "layout": "read_u16/read_u32=read read_pair/read_quad write_u16/write_u32=write write_pair/write_quad",
-    "accounts": "charged/refunded charge/refund=change_quota",
+    "accounts": "charged/refunded charge/refund=change_quota charge/words:charge refund/words:refund remaining/words:remaining "
+    "spent/words:spent hold_at/words:hold_at put_hold/words:put_hold drop_hold/words:drop_hold "
+    "drop_holds/words:drop_holds left_permissions/words:left_permissions "
+    "clear_permissions/words:clear_permissions with_last_serial/words:set_last_serial open/words:open",
     "words": "charge/refund=change_remainder put_quotas/put_holds quotas_of/holds_of",
-    "survey": "walk/walk_frames used_end/one_down failed/lost survey/check_in_frames=begin",
+    "survey": "grant_in/statistics:grant_in is_live/holding:counted walk/walk_frames used_end/one_down failed/lost survey/check_in_frames=begin",
     "writer": "make_free/make_unquarantined=join_neighbours",
-    "image": "form_1/form_2 read_entries/read_records write_entries/write_records",
-    "comparison": "is_same_quota/is_same_record find_quota/find_record from_quota/from_record with_second/pair_of",
+    "image": "read_pair/read_quad form_1/form_2 read_entries/read_records write_entries/write_records",
+    "comparison": "find_unlike/find_like is_same_quota/is_same_record find_quota/find_record from_quota/from_record with_second/pair_of",
     "report": "put_part/settings:put_value",
     "settings": "last_version/nth_entry last_in/nth_in last_in/find_in",
     "statistics": "no_statistics/no_quota_statistics",

@@ -5,15 +5,10 @@ use mathlib.Core.Path.{◌≡◌, ap, ◌∙◌}
 use mathlib.Core.Bool.{Bool, true, false, cond}
 use lib.ListN.{length, get_or-eq_default}
 use lib.Dec.{eqb}
-use borrow.Author.Tests.{eq-eqb}
 use Rattle.accounts.specs.declared.Quota.{Quota}
 use Rattle.accounts.specs.declared.Accounts.{Accounts}
 use Rattle.accounts.specs.Accounts.{zero_quota, bit_left, cleared, left_permissions}
 use Rattle.accounts.proofs.Rows
-
--- a bit is left where the number's bit is not set
-pub bit_stays : (n p : ℕ) → n % 2 ≡ 0 → bit_left n p ≡ p % 2
-bit_stays n p e = rw (eq-eqb (n % 2) 0 e)
 
 -- what is left of a bit is at most that bit
 pub left_most : (n p : ℕ) → bit_left n p ≤ p % 2

@@ -212,7 +212,8 @@ impl Accounts {
         entry.grant - entry.remainder
     }
 
-    // A quota is what the function makes of it; where there is no such quota, nothing changes.
+    // A quota is what the function makes of it; where there is no such quota, nothing changes. `charge` and `refund` share
+    // it: they stay two, since callers name them, and each has its own closure and nothing more.
     fn change_quota<F: FnOnce(Quota) -> Quota>(mut self, quota: u32, change: F) -> Accounts
         requires { F.IsAlwaysCallable change }
         ensures { (f : Quota → Quota) → ((x y : Quota) → F.post change x y → y ≡ f x) → result ≡ change_quota quota f self }

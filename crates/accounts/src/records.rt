@@ -44,7 +44,8 @@ impl Accounts {
         Hold::zero()
     }
 
-    // Another record at a place; a place out of range changes nothing.
+    // Another record at a place; a place out of range changes nothing. The test stays: the edit `put_hold_stores_past_the_holds`
+    // breaks it, and `get_mut` is no plainer.
     pub fn put_hold(mut self, at: usize, hold: Hold) -> Accounts
         ensures { result ≡ put_hold at hold self }
     {

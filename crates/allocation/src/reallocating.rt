@@ -42,14 +42,11 @@ fn exchange(
     let Some(place) = known.holder else {
         return Err(Refusal::NotHeld);
     };
-    let granted = grant(heap, words, wanted, known);
-    let Ok(new) = granted else {
-        return granted;
-    };
+    let new = grant(heap, words, wanted, known)?;
     let count = (new.length as usize).min(length);
     layout::copy_part(heap, block.at + 8, new.base as usize, count);
     drop_claim(heap, words, wanted.quota, block.at, place, known.other);
-    granted
+    Ok(new)
 }
 
 // A new object of at least `length` bytes in place of one that the quota holds, with as many of its bytes as both have.

@@ -13,7 +13,7 @@ fn nth_difference(first: &[u8], second: &[u8], n: usize) -> Option<Difference>
     ensures { compared (Ok result) ≡ nth_of first.now second.now n }
 {
     let mut from = Position::Start;
-    for i in 0..n {
+    for _ in 0..n {
         let (_, behind) = step_from(first, second, from)?;
         from = behind;
     }

@@ -1,10 +1,11 @@
 // From difference to difference: the first one from a position on, and the position behind it, of what two images say.
-// Nothing is tested here: `comparing` calls it for images that it has found comparable.
+// Nothing is tested here: `comparing` calls it for images that it has found comparable. The two images stand beside each
+// other in all functions, and in no struct: lokhazim_image_compare lends them so.
 ghost use Rattle.std.specs.Prelude.{◌≡◌};
 ghost use Rattle.comparison.specs.Differences.{state_in, differences};
 ghost use Rattle.comparison.specs.Positions.{from_byte, from_record, from_quota, from_edition, from_kind, first_of, next_of};
 
-use crate::finding::{find_like, find_unlike};
+use crate::finding::find_byte;
 use crate::{Difference, Position};
 use accounts::{HOLDS, QUOTAS};
 use std::cmp::min;
@@ -18,8 +19,8 @@ fn from_byte(first: &[u8], second: &[u8], at: usize) -> Option<(Difference, Posi
     let start = one.start as usize;
     let other = two.start as usize;
     let end = min(one.size, two.size) as usize;
-    let from = find_unlike(first, second, start, other, at, end)?;
-    let to = find_like(first, second, start, other, from, end).unwrap_or(end);
+    let from = find_byte(first, second, start, other, at, end, false)?;
+    let to = find_byte(first, second, start, other, from, end, true).unwrap_or(end);
     Some((Difference::Bytes(from, to - from), Position::Byte(to)))
 }
 
@@ -36,7 +37,8 @@ fn from_record(first: &[u8], second: &[u8], place: usize) -> Option<(Difference,
 }
 
 // The first quota from a number on, or what is first behind the quotas. This and `from_record` differ in the table, the
-// names and what is behind; one function for both would take a closure for each, and is no plainer.
+// names and what is behind; one function for both would take a closure for each, and is no plainer. The same holds of
+// `from_edition`, `from_kind` and `from_start`, which differ in the field, the names and what is behind.
 fn from_quota(first: &[u8], second: &[u8], number: usize) -> Option<(Difference, Position)>
     ensures { result ≡ first_of (from_quota (state_in first.now) (state_in second.now) number) }
 {

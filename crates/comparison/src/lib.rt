@@ -20,7 +20,8 @@ pub enum Difference {
     Bytes(usize, usize),
 }
 
-// Which of the two images a refusal is about.
+// Which of the two images a refusal is about. `Neither` and no Option: `why_both` (specs/Compare.antt) says it of what
+// both are refused for together.
 #[derive(Clone, Copy)]
 pub enum Which {
     First,

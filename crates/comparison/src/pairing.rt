@@ -26,7 +26,8 @@ fn both(first: &[u8], second: &[u8]) -> Result<(), (ImageRefusal, Which)>
     Ok(())
 }
 
-// Whether an image is accepted alone; or why not, and which of the two it is.
+// Whether an image is accepted alone; or why not, and which of the two it is. A match, since `map` and `map_err` would
+// take a closure for each of its two arms, which is no plainer.
 fn accepted(image: &[u8], which: Which) -> Result<(), (ImageRefusal, Which)>
     ensures { MatchResult result (λ x. first_refusal (examine_lines image.now) ≡ 0)
         (λ e. (first_refusal (examine_lines image.now) ≡ image_refusal_number e.0) × (e.1 ≡ which)) }

@@ -13,7 +13,11 @@ use Rattle.model.specs.Refusals.{Line, ◌when◌, first_refusal, line_1, line_2
 use Rattle.framing.specs.Frames.{padded, stream_of}
 use Rattle.image_model.specs.declared.Form.{Form}
 use Rattle.image_model.specs.declared.ImageRefusal.{ImageRefusal}
-use Rattle.image_model.specs.declared.ImageRefusal.TheVariants.{Unsound}
+use Rattle.image_model.specs.declared.ImageRefusal.TheVariants.{Call, ImageLength, FrameWrong, FormNumber, Contents, Room, Unsound, HeapLengths, NotCarried}
+use Rattle.image_model.specs.declared.ImageRefusal.TheVariants.{FormsDiffer}
+use Rattle.model.specs.declared.Refusal.{Refusal}
+use Rattle.model.proofs.Answers.{refusal_number_is}
+use mathlib.Core.Logic.{◌⊎◌, inl, inr}
 use Rattle.std.specs.Prelude.{Result, Ok, Err}
 use Rattle.image_model.specs.Stream.{head_length}
 use Rattle.image_model.specs.Reading.{form_of, size_in, accounts_in, heap_of, heap_in}
@@ -61,6 +65,24 @@ pub other_before : (n : ℕ) → 1 ≤ n → n ≤ 22 → n ≡ other_form n
 unfolding other_form
 other_before zero l h = absurd (omega arith)
 other_before (suc n) l h = rw (le-ltb 22 (suc n) h)
+
+-- the numbers up to 22 are those of a call's refusals, of the length and of the frames
+pub number_before : (r : ImageRefusal) → ((x : Refusal) × (r ≡ Call x)) ⊎ ((r ≡ ImageLength) ⊎ (r ≡ FrameWrong)) → image_refusal_number r ≤ 22
+number_before r (inl (x, e)) = omega (arith, ap image_refusal_number e, (refusal_number_is x).2)
+number_before r (inr (inl e)) = omega (arith, ap image_refusal_number e)
+number_before r (inr (inr e)) = omega (arith, ap image_refusal_number e)
+
+pub number_behind : (r : ImageRefusal) → ((x : Refusal) → r ≡ Call x → ⊥) → (r ≡ ImageLength → ⊥) → (r ≡ FrameWrong → ⊥) → 22 < image_refusal_number r
+number_behind (Call x) c l f = absurd (c x refl)
+number_behind ImageLength c l f = absurd (l refl)
+number_behind FrameWrong c l f = absurd (f refl)
+number_behind FormNumber c l f = omega arith
+number_behind Contents c l f = omega arith
+number_behind Room c l f = omega arith
+number_behind Unsound c l f = omega arith
+number_behind HeapLengths c l f = omega arith
+number_behind NotCarried c l f = omega arith
+number_behind FormsDiffer c l f = omega arith
 
 -- a refusal's number is not 0
 unless_some : (m : ℕ) (o : List ℕ) (x : Imaged) → 1 ≤ m → record { image = o; refusal = m; length = 0 } ≡ unless_written m o x

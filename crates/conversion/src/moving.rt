@@ -15,6 +15,7 @@ use crate::Direction;
 use accounts::Accounts;
 use image_model::{Form, ImageRefusal};
 use layout::GREATEST_HEAP;
+use model::Refusal;
 
 // Bytes for the longest heap.
 fn heap_space() -> [u8; GREATEST_HEAP] {
@@ -46,8 +47,9 @@ fn write_to(
     }
 }
 
-// The heap of an image is copied out, as many bytes as there is room for, and written with the accounts. The writer tests whether they are consistent:
-// what it refuses by 2 is refused by 26 here.
+// The heap of an image is copied out, as many bytes as there is room for, and written with the accounts. The writer
+// tests whether they are consistent: what it refuses by 2 is refused by 26 here. `out`, `accounts` and `way` are handed
+// on as they came by this and `rewrite`; a struct of them would be made once and opened once, and is no plainer.
 fn rewrite_in(
     image: &[u8],
     out: &mut [u8],
@@ -65,10 +67,13 @@ fn rewrite_in(
     let Err(refusal) = answer else {
         return answer;
     };
-    if refusal.number() == 2 {
-        return Err(ImageRefusal::Unsound);
+    let ImageRefusal::Call(call) = refusal else {
+        return answer;
+    };
+    match call {
+        Refusal::Inconsistent => Err(ImageRefusal::Unsound),
+        _ => answer,
     }
-    answer
 }
 
 // The same of a heap of so many bytes, which the image has in pieces; in one piece it stands on the stack.
@@ -94,10 +99,10 @@ fn other_form(shape: Result<(Form, usize), ImageRefusal>) -> ImageRefusal
     let Err(refusal) = shape else {
         return ImageRefusal::FormNumber;
     };
-    if refusal.number() > 22 {
-        return ImageRefusal::FormNumber;
+    match refusal {
+        ImageRefusal::Call(_) | ImageRefusal::ImageLength | ImageRefusal::FrameWrong => refusal,
+        _ => ImageRefusal::FormNumber,
     }
-    refusal
 }
 
 // An image moved up or down.

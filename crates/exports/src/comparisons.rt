@@ -66,7 +66,8 @@ impl Numbered for Difference {
     }
 }
 
-// The other numbers of a difference: its place and its length.
+// The other numbers of a difference: its place and its length. A match each: C gets both, 0 where a difference has none,
+// and one Option or pair of them would be taken apart again at both replies.
 fn place_of(difference: Difference) -> usize
     ensures { result ≡ place_number difference }
 {
@@ -93,7 +94,8 @@ fn length_of(difference: Difference) -> usize
     }
 }
 
-// The reply of compare.
+// The reply of compare. It and the next difference's have five fields alike, but each is a C struct of its own, and C
+// has no generic one.
 fn reply_of_compare(answer: Result<Option<Difference>, (ImageRefusal, Which)>) -> CompareReply
     ensures { result ≡ compare_reply (compared answer) }
 {
@@ -122,7 +124,8 @@ fn reply_of_compare(answer: Result<Option<Difference>, (ImageRefusal, Which)>) -
     }
 }
 
-// The position of a part's number and a place in it; a number above 5 is taken as 3.
+// The position of a part's number and a place in it; a number above 5 is taken as 3, which no TryFrom would say, and
+// the types are of other crates, so there is no `From`.
 #[tactic(auto, unfolding(crate::specs::ComparisonReplies::position_of))]
 fn position_of(part: u32, at: usize) -> Position
     ensures { result ≡ position_of part at }
@@ -153,7 +156,7 @@ impl Numbered for Position {
     }
 }
 
-// The place in a position's part.
+// The place in a position's part. A number: the two numbers that C lends back are the position again, by `position_of`.
 fn place_in(from: Position) -> usize
     ensures { result ≡ place_in from }
 {

@@ -16,7 +16,8 @@ use accounts::{Edition, Kind, Settings};
 use model::Handle;
 use words::WORDS;
 
-// The kind with a number. A number: C lends any, and each but 0 is the second kind, which no TryFrom would say.
+// The kind with a number. A number: C lends any, and each but 0 is the second kind, which no TryFrom would say; and no
+// `From`, since both types are of other crates.
 #[tactic(auto, unfolding(crate::specs::HeapReplies::kind_by))]
 fn kind_by(number: u32) -> Kind
     ensures { result ≡ kind_by number }

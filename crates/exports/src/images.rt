@@ -31,7 +31,7 @@ pub struct ExamineReply {
     pub heap_length: usize,
 }
 
-// The reply of the writer.
+// The reply of the writer. A C struct of its own, as in `replies`.
 fn reply_of_write(answer: Result<usize, ImageRefusal>) -> ImageReply
     ensures { (o : List ℕ) → image_reply o result ≡ imaged o answer }
 {

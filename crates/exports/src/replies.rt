@@ -52,7 +52,8 @@ pub struct BlockReply {
     pub serial: u32,
 }
 
-// What C gets as a number: the refusals of each topic, and the enums of a comparison.
+// What C gets as a number: the refusals of each topic, and the enums of a comparison. A trait and no `From`: the enums
+// and `u32` are of other crates, and `number` of each refusal stays, which docs/PROMISES*.md name.
 pub(crate) trait Numbered {
     ghost numbered: { Self → ℕ };
 
@@ -103,7 +104,8 @@ pub(crate) fn reply_of_handle<R: Numbered>(answer: Result<Handle, R>) -> HandleR
     }
 }
 
-// The reply of a call that gives an amount.
+// The reply of a call that gives an amount. This reply, a range's, a block's and those of the writer, of add and of
+// export are a C struct each, with names of its own, so one generic function would take a closure for each struct.
 pub(crate) fn reply_of_amount(answer: Result<u32, Refusal>) -> AmountReply
     ensures { amount_numbers result ≡ amount_values answer }
 {

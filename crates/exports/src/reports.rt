@@ -45,7 +45,7 @@ fn reply_of_import(imported: Imported) -> ImportReply
     }
 }
 
-// The reply of export.
+// The reply of export. A C struct of its own, as in `replies`.
 #[tactic(auto, unfolding(report::specs::Export::text_told))]
 fn reply_of_export(answer: Result<usize, ReportRefusal>) -> ExportReply
     ensures { (t : List ℕ) → result ≡ export_reply (text_told t answer) }

@@ -38,7 +38,7 @@ pub struct EntryReply {
     pub end: usize,
 }
 
-// The reply of find.
+// The reply of find, and below those of add and of an entry. Each is a C struct of its own, as in `replies`.
 #[tactic(auto, unfolding(settings::specs::Find::located))]
 fn reply_of_find(place: Result<Place, SettingsRefusal>) -> FindReply
     ensures { result ≡ find_reply (located place) }

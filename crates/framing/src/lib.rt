@@ -1,4 +1,6 @@
-// A stream cut into frames of 512 bytes, each with its number, the number of frames and a check. Nothing here knows what the stream says.
+// A stream cut into frames of 512 bytes, each with its number, the number of frames and a check. Nothing here knows what
+// the stream says. A stream to write is two slices everywhere, as `write_frames` is lent them: the head, and the heap's
+// bytes behind it. An image comes with a place: the contracts say by `overwrite at` what of it stays.
 #![tactic(auto)]
 
 ghost use Rattle.std.specs.Prelude.{◌≡◌, ◌+◌, ◌*◌, ◌/◌, ◌^◌, ◌<◌, ◌≤◌, ◌++◌, length, drop, slice_index};
@@ -44,7 +46,7 @@ fn fill(image: &mut [u8], to: usize, head: &[u8], body: &[u8], from: usize)
     }
 }
 
-// One frame of the stream, written at a place of the image.
+// One frame of the stream, written at a place of the image. `count` stands in each frame, and is no buffer's length.
 fn write_frame(
     image: &mut [u8],
     at: usize,

@@ -15,6 +15,8 @@ use model::Refusal;
 use words::WORDS;
 
 // How many live blocks a block with this serial is.
+// A number and no bool: it counts, as `counted` (specs/Emptying.antt) does. `is_live` in survey is the same test and is
+// private there: a public function of survey for two comparisons is no plainer.
 fn counted(serial: u32) -> usize
     ensures { result ≡ counted serial }
 {
@@ -28,17 +30,14 @@ fn counted(serial: u32) -> usize
 }
 
 // A block that is not kept is passed: a live one is vacated. The place behind what is left of it is given.
-// The kind is a byte, as C lends it: the survey has refused each that is no kind.
+// The kind is a byte, as `words::kind` gives it and `writer::vacate_block` takes it: an enum would be turned back here.
 fn pass_block(heap: &mut [u8], kind: u8, block: Met) -> usize
     requires { Bounded block }
     ensures leaves { heap.new ≡ passed kind false block heap.old }
     ensures ends { result ≡ passed_end kind false block heap.old }
 {
     let end = block.at + block.size;
-    if block.serial == 0 {
-        return end;
-    }
-    if block.serial == QUARANTINED {
+    if counted(block.serial) == 0 {
         return end;
     }
     writer::vacate_block(heap, block, kind)

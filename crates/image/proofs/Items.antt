@@ -4,7 +4,7 @@ use mathlib.Core.List.{List, [], ◌∷◌, ◌++◌, append_assoc, append-nil}
 use mathlib.Core.Bool.{Bool, true, false, ◌&&◌}
 use Prim.Native.Nat.{ℕ, zero, suc, ◌+◌, ◌*◌, ◌-◌, ◌≤◌, ◌<◌}
 use native.Mathlib.Omega.{arith}
-use native.Mathlib.Nat.{suc-mul, zero-mul, sub-zero}
+use native.Mathlib.Nat.{suc-mul, zero-mul}
 use native.Mathlib.Numerals.{add-one}
 use lib.ListN.{length, take, drop, get_or, set}
 use lib.Seq.{take-suc, drop-cons, set_at, drop-drop, append_snoc, length-take-le}
@@ -61,9 +61,6 @@ module _ (t : List ℕ → Bool) (w : ℕ) where
   -- the items from one on
   abbrev pub every_from : ℕ → ℕ → List ℕ → Bool
   every_from i n s = every t w (n - i) (drop (i * w) s)
-
-  pub every_all : (n : ℕ) (s : List ℕ) → every_from 0 n s ≡ every t w n s
-  every_all n s = rw (sub-zero n, zero-mul w)
 
   pub every_none : (i n : ℕ) (s : List ℕ) → n ≤ i → true ≡ every_from i n s
   unfolding every

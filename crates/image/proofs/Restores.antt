@@ -26,6 +26,7 @@ use Rattle.image_model.specs.declared.Form.{Form}
 use Rattle.image_model.specs.declared.ImageRefusal.{ImageRefusal}
 use Rattle.image_model.specs.declared.ImageRefusal.TheVariants.{Room, Unsound}
 use Rattle.std.specs.Prelude.{Ok, Err, Result}
+use Rattle.std.specs.Result.{is_ok}
 use Rattle.image_model.specs.Stream.{head_length}
 use Rattle.image_model.specs.Reading.{size_in, heap_of, heap_in}
 use Rattle.image_model.specs.Answers.{RestoredTo, restored_to, image_refusal_number}
@@ -51,6 +52,13 @@ module _ (s r : List ℕ) (k : Accounts) (v : Result (Unit {0}) Refusal) (told :
       second : (b : Bool) (n : ℕ) → first_refusal ((2 when not b) ∷ []) ≡ suc n → false ≡ b
       second true n g = absurd (omega arith)
       second false n g = refl
+
+  pub check_answers : allowed (length s) ≡ true → is_ok v ≡ own_consistent r k
+  check_answers a = by_answer v refl
+    where
+      by_answer : (w : Result Unit Refusal) → v ≡ w → is_ok w ≡ own_consistent r k
+      by_answer (Ok tt) e = check_consistent e
+      by_answer (Err x) e = check_unsound a x e
 
 -- what is left of reading: 25, 26, or the heap
 module _ (f : Form) (n : ℕ) (t h : List ℕ) (k : Accounts) where

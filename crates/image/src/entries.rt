@@ -49,7 +49,7 @@ fn write_permissions(head: &mut [u8], at: usize, permissions: u8)
     layout::write_u32(head, at, u32::from(permissions));
 }
 
-// An entry, written at a place of the head.
+// An entry, written at a place of the head, of which the contracts say by `overwrite at` what stays.
 fn write_entry(head: &mut [u8], at: usize, quota: Quota, form: Form)
     requires { at + entry_width form ≤ length head.old }
     ensures { head.new ≡ overwrite at (entry_bytes form quota) head.old }

@@ -56,8 +56,9 @@ pub(crate) fn entry_at(entry: usize, form: Form) -> usize
     12 + entry * 8
 }
 
-// Where the heap begins. `FormFits` is a clause here and in others, and no invariant: `Form` is public, and
-// docs/PROMISES-THEOREM.md and the definitions of image_model speak of any form.
+// Where the heap begins. `FormFits` is a clause here and in others, as `form.quotas ≤ QUOTAS` and `count ≤ HOLDS` are,
+// which are parts of it, and no invariant: `Form` is public, and docs/PROMISES-THEOREM.md and the definitions of
+// image_model speak of any form.
 pub(crate) fn heap_at(form: Form) -> usize
     requires { FormFits form }
     ensures { (result ≡ head_length form) × (result ≤ 4492) }

@@ -22,8 +22,8 @@ pub use parsing::{parse_image, shape_of};
 pub use reading::read_image;
 pub use writing::{form_1_length, image_length, write_form_1, write_image};
 
-// What an image is by its own bytes, its form and the heap's length, or why it is refused; and its accounts, all zero
-// where it is refused.
+// What an image is by its own bytes, its form and the heap's length, or why it is refused; and its accounts. These stand
+// beside the answer: `parts_in` (specs/Parsing.antt) says that they are all zero where the image is refused.
 #[derive(Clone, Copy)]
 pub struct Parsed {
     pub accounts: Accounts,

@@ -8,7 +8,8 @@ ghost use Rattle.image_model.specs.Reading.{marks_in};
 use crate::numbers::read_pair;
 use image_model::Form;
 
-// The two bytes as one number. Bytes and no enums: in the words that C lends the kind and the edition can be any byte.
+// The two bytes as one number. Bytes and no enums: `words::kind` and `words::edition` give bytes, and bytes are
+// written.
 pub(crate) fn marks(form: Form, kind: u8, edition: u8) -> u32
     ensures { (bytes 2 result ≡ cond form.full (bytes 1 edition ++ bytes 1 kind) (replicate 2 0)) × (result < 65536) }
 {
@@ -31,7 +32,8 @@ pub(crate) fn marks_right(image: &[u8], form: Form) -> bool
     framing::stream_at(image, 3) < 2
 }
 
-// The kind that an image says; a form that is not full says that the heap is plain.
+// The kind that an image says; a form that is not full says that the heap is plain. A byte: `accounts_in` reads an image
+// whatever its bytes are.
 pub(crate) fn read_kind(image: &[u8], form: Form) -> u8
     ensures { result ≡ cond form.full (get_or (stream_of image.now) 3 0) 0 }
 {
@@ -41,7 +43,7 @@ pub(crate) fn read_kind(image: &[u8], form: Form) -> u8
     framing::stream_at(image, 3)
 }
 
-// The edition that an image says; a form that is not full says edition 1.
+// The edition that an image says; a form that is not full says edition 1. A byte, as the kind is.
 pub(crate) fn read_edition(image: &[u8], form: Form) -> u8
     ensures { result ≡ cond form.full (get_or (stream_of image.now) 2 0) 0 }
 {

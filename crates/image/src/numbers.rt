@@ -13,7 +13,8 @@ pub(crate) fn read_pair(image: &[u8], at: usize) -> u32
     low + 256 * high
 }
 
-// The number of the four bytes at a place of the stream.
+// The number of the four bytes at a place of the stream: two pairs. The readers of `layout` don't serve, since a frame's
+// end can lie between two bytes of the stream; one generic reader would need a buffer, and is no plainer.
 pub(crate) fn read_quad(image: &[u8], at: usize) -> u32
     requires { at + 4 < 2 ^ 32 }
     ensures { result ≡ number (take 4 (drop at (stream_of image.now))) }

@@ -12,16 +12,15 @@ use image_model::ReadResult;
 use model::Refusal;
 use words::WORDS;
 
-// Whether an image's heap, of so many bytes of the stream from a place on, is consistent with the accounts that the words hold. It is checked where it lies: a
-// lent heap stays as it is where they are not.
+// Whether an image's heap, of so many bytes of the stream from a place on, is consistent with the accounts that the
+// words hold. It is checked where it lies: a lent heap stays as it is where they are not. `from` and `size` and no
+// `HeapPlace`: `check_in_frames`, in a crate below, takes them so, and a place would be opened at once, which is no
+// plainer. That the size is allowed is a clause: the image says the size, and it is tested once, where it is read.
 pub(crate) fn is_consistent_in(image: &[u8], from: u16, size: usize, words: &[u32; WORDS]) -> bool
     requires { allowed size ≡ true }
     ensures { result ≡ own_consistent (padded size (drop from (stream_of image.now))) (accounts_of words.now) }
 {
-    let Ok(()) = survey::check_in_frames(image, from, size, words) else {
-        return false;
-    };
-    true
+    survey::check_in_frames(image, from, size, words).is_ok()
 }
 
 // The same with the accounts by value.

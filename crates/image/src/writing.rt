@@ -10,7 +10,8 @@ use crate::in_place;
 use accounts::Accounts;
 use image_model::{Form, ImageRefusal};
 
-// The length of an image of a heap of so many bytes in a form, 0 where no heap has that length.
+// The length of an image of a heap of so many bytes in a form, 0 where no heap has that length. 0 and no None:
+// lokhazim_image_length gives it to C, and `length_for` (specs/Parsing.antt) says it.
 fn length_in(form: Form, size: usize) -> usize
     requires { FormFits form }
     ensures { result ≡ length_for form size }

@@ -4,6 +4,7 @@
 
 ghost use Rattle.std.specs.Prelude.{◌≡◌};
 ghost use Rattle.image_model.specs.Answers.{image_refusal_number};
+ghost use Rattle.image_model.specs.declared.ImageRefusal.TheVariants.{Call};
 
 use accounts::Accounts;
 use model::Refusal;
@@ -32,7 +33,8 @@ pub enum ImageRefusal {
     FormsDiffer,
 }
 
-// What the reader hands back beside the heap.
+// What the reader hands back beside the heap. The accounts stand beside the answer: `unless_read` (specs/Images.antt)
+// says that they are all zero on a refusal.
 #[derive(Clone, Copy)]
 pub struct ReadResult {
     pub accounts: Accounts,
@@ -56,5 +58,14 @@ impl ImageRefusal {
             ImageRefusal::NotCarried => 28,
             ImageRefusal::FormsDiffer => 29,
         }
+    }
+}
+
+impl From<Refusal> for ImageRefusal {
+    ghost from_gives = { λ refusal given. given ≡ Call refusal };
+
+    // A refusal that every call has is one of an image.
+    fn from(refusal: Refusal) -> ImageRefusal {
+        ImageRefusal::Call(refusal)
     }
 }

@@ -98,7 +98,7 @@ pub enum Answer {
     Block(Result<Option<ListedBlock>, Refusal>),
 }
 
-// A call of a history, with its arguments.
+// A call of a history, with its arguments. A `count` is what a caller asks for, and no buffer's length.
 #[derive(Clone, Copy, PartialEq, Eq)]
 pub enum Call {
     Allocate {

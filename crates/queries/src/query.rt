@@ -15,10 +15,8 @@ use words::WORDS;
 pub fn check(heap: &[u8], words: &[u32; WORDS]) -> Result<(), Refusal>
     ensures { verdict_values result ≡ (check_of (table (edition_of words.now)) heap.now (accounts_of words.now)).values }
 {
-    match survey::survey(heap, words, survey::unasked()) {
-        Ok(_) => Ok(()),
-        Err(refusal) => Err(refusal),
-    }
+    survey::survey(heap, words, survey::unasked())?;
+    Ok(())
 }
 
 // Rule 8.30: what remains of a quota.
@@ -34,6 +32,8 @@ pub fn remaining(heap: &[u8], words: &[u32; WORDS], quota: u32) -> Result<u32, R
 }
 
 // Rule 8.31: whether a quota can release an object, by the refusal that a release would meet.
+// A release (allocation) writes behind the same tests: one function would take what to do as a closure, which is no
+// plainer than a test and its refusal, as at `can_count` (claiming.rt).
 // It stands by itself, so that a send's stack holds one survey at a time.
 #[inline(never)]
 pub fn can_release(

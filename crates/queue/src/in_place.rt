@@ -1,5 +1,5 @@
-// A send over the accounts and the queue where they lie, and a receive over the queue where it lies. The release is asked for before the claim is made, so that
-// no word has changed where it would be refused.
+// A send over the accounts and the queue where they lie, and a receive over the queue where it lies. The release is
+// asked for before the claim is made, so that no word has changed where it would be refused.
 ghost use Rattle.std.specs.Prelude.{◌≡◌};
 ghost use Rattle.rounding.specs.Rounding.{table};
 ghost use Rattle.words.specs.Words.{edition_of, accounts_of, Padded};
@@ -14,7 +14,8 @@ use crate::{PLACES, QueueRefusal};
 use model::{Handle, Refusal};
 use words::WORDS;
 
-// A handle is sent: the receiver claims the object and the sender releases it. Where one of the two would be refused, nothing has changed.
+// A handle is sent: the receiver claims the object and the sender releases it. Where one of the two would be refused,
+// nothing has changed.
 pub fn send_in_place(
     heap: &mut [u8],
     words: &mut [u32; WORDS],
@@ -34,6 +35,7 @@ pub fn send_in_place(
     }
     let sender = word_at(queue, SENDER);
     let receiver = word_at(queue, RECEIVER);
+    // No `?` on the claim's question: it would read as if the claim were wanted, and a refused send ends here.
     if let Err(refusal) = heap::in_place::can_release(heap, words, sender, handle) {
         if let Err(first) = heap::in_place::can_claim(heap, words, receiver, handle) {
             return Err(QueueRefusal::Heap(first));

@@ -1,5 +1,5 @@
-// Packet queues over the heap's promises alone (rules, section 21): up to sixteen handles on their way from a sending quota to a receiving one, first in, first
-// out.
+// Packet queues over the heap's promises alone (rules, section 21): up to sixteen handles on their way from a sending
+// quota to a receiving one, first in, first out.
 #![tactic(auto)]
 
 ghost use Rattle.std.specs.Prelude.{◌≡◌};
@@ -56,7 +56,7 @@ pub struct ReceiveResult {
 }
 
 impl QueueRefusal {
-    // The refusal's number (rule 21.3).
+    // The refusal's number (rule 21.3). docs/PROMISES-QUEUE.md names it, and C gets it.
     pub fn number(self) -> u32
         ensures { result ≡ queue_refusal_number self }
     {
@@ -97,7 +97,8 @@ impl Queue {
     }
 }
 
-// A handle is sent: the receiver claims the object and the sender releases it. Where one of the two would be refused, nothing has changed.
+// A handle is sent: the receiver claims the object and the sender releases it. Where one of the two would be refused,
+// nothing has changed.
 pub fn send(heap: &mut [u8], accounts: Accounts, queue: Queue, handle: Handle) -> SendResult
     ensures { send_outcome heap.new result ≡ send_of (table accounts.edition) heap.old accounts queue handle }
 {

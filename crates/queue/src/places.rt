@@ -1,5 +1,5 @@
-// A queue as words where they lie: its sender, its receiver, its count, then base, length and serial of each place. The definition `queue_of` says which queue
-// some words hold.
+// A queue as words where they lie: its sender, its receiver, its count, then base, length and serial of each place. The
+// definition `queue_of` says which queue some words hold.
 ghost use Rattle.std.specs.Prelude.{◌≡◌, ◌<◌, length, get_or};
 ghost use Rattle.model.specs.Answers.{zero_handle};
 ghost use Rattle.queue.specs.Queue.{PLACES, with_handle, without_oldest};

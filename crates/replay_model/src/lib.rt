@@ -2,6 +2,7 @@
 #![tactic(auto)]
 
 // The name that a line begins with.
+// `Unknown` and no Option: `word_of` (specs/Commands.antt), which docs/PROMISES.md names, gives it.
 #[derive(Clone, Copy)]
 pub enum Word {
     Open,

@@ -3,7 +3,7 @@ ghost use Rattle.std.specs.Prelude.{◌≡◌, length};
 ghost use Rattle.replay_model.specs.Text.{digits, places, read_on, read_number};
 
 // How many digits a number has.
-// Digits are written by hand: std's `Write` has no clause by which a write into lent bytes succeeds.
+// Digits are written by hand: std's `write_all` has no clause by which a write into lent bytes succeeds.
 pub(crate) fn count_digits(n: u32) -> usize
     ensures { result ≡ places 9 n }
 {

@@ -7,6 +7,8 @@ ghost use Rattle.replay_text.specs.Clauses.{Room, Put};
 use crate::digits;
 
 // An output that is lent, and how many bytes at its front are written.
+// No Vec: the bytes are lent, and the project takes no heap. No `Cursor` of std: its `write` gives a count in a Result,
+// which each method would take apart, so it is no plainer.
 #[derive(Drop)]
 pub(crate) struct Output<'a> {
     bytes: &'a mut [u8],
@@ -42,7 +44,7 @@ impl<'a> Output<'a> {
         self.written = end;
     }
 
-    // A number in decimal.
+    // A number in decimal, by hand as digits.rt says.
     pub(crate) fn put_number(&mut self, n: u32)
         requires { Room (decimal n) self.old }
         ensures { Put (decimal n) self.old self.new }

@@ -1,5 +1,8 @@
 // The run of an input: its first line opens a heap, each further line is a call on it, and at the end its blocks are
 // listed.
+// Heap and accounts are two parameters, and `Reached` is a clause of four functions: `heap::perform` and
+// `heap::list_from` take the two apart, so a struct with that invariant would be taken apart and made again at each
+// call, which is no plainer.
 ghost use Rattle.std.specs.Prelude.{◌≡◌, ◌+◌, ◌≤◌, length, replicate, IfSome};
 ghost use Rattle.accounts.specs.Accounts.{plain};
 ghost use Rattle.layout.specs.Blocks.{greatest_heap};

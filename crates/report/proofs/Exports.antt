@@ -1,12 +1,13 @@
 -- Lines written one behind the other, and what export leaves and answers.
 use mathlib.Core.Path.{◌≡◌, refl, sym, ◌∙◌}
 use mathlib.Core.List.{List, [], ◌∷◌, ◌++◌, append_assoc, append-nil}
-use Prim.Native.Nat.{ℕ, ◌+◌, ◌*◌, ◌≤◌, ◌<◌}
+use Prim.Native.Nat.{ℕ, ◌+◌, ◌*◌, ◌-◌, ◌≤◌, ◌<◌}
 use native.Mathlib.Omega.{arith}
 use native.Mathlib.Numerals.{add-one}
 use native.Mathlib.Nat.{suc-mul}
 use lib.ListN.{length, take, drop, get_or, length-append}
-use lib.Seq.{take-suc, length-take-le}
+use lib.Seq.{take-suc, length-take-le, drop-drop}
+use borrow.Rule.Slice.PartMut.{put_mid}
 use borrow.Author.Tests.{lt-ltb, le-ltb}
 use Rattle.std.specs.Prelude.{Ok, Err}
 use Rattle.layout.specs.Bytes.{overwrite}
@@ -47,6 +48,12 @@ put_line_more i gs s₀ s s' h l e f =
     let two : overwrite (0 + length m) y (overwrite 0 m s₀) ≡ overwrite 0 (m ++ y) s₀ = overwrite_two 0 m y s₀ (omega arith) in
     let p : 54 * i ≡ 0 + length m = omega arith in
     f ∙ rw (e, lines_more gs i h, p) two
+
+pub line_put : (at : ℕ) (s new : List ℕ) → length new ≡ 54 → at + 54 ≤ length s → put_mid at (at + 54 - at) s new ≡ overwrite at new s
+line_put at s new e l =
+    let k : at + 54 - at ≡ 54 = omega arith in
+    let f = overwrite_fits at new s (omega arith) in
+    rw (k, drop-drop 54 at s) (sym (rw e at f))
 
 -- what export leaves
 take_none : (t : List ℕ) → take 0 t ≡ []

@@ -13,13 +13,12 @@ use lib.Dec.{leb, eqb, lit<}
 use borrow.Author.Tests.{le-leb, eq-eqb, ne_eqb}
 use Rattle.std.specs.Prelude.{Ok, Err}
 use Rattle.lists.proofs.Bools.{and_parts}
-use borrow.Rule.Slice.PartMut.{put_mid}
 use Rattle.layout.specs.Bytes.{overwrite}
-use Rattle.layout.proofs.Overwrite.{length_overwrite, overwrite_more, overwrite_two, overwrite_fits}
+use Rattle.layout.proofs.Overwrite.{overwrite_more}
 use Rattle.report.specs.Words.{digit, value, is_digit, all_digits, digits, number, mark, text, line_text, word_right, words_right, words, all_zero}
 use Rattle.report.specs.Import.{line_of}
 use Rattle.report.specs.declared.ReportRefusal.TheVariants.{Character, Reserved}
-use Rattle.report.proofs.Hex.{digits_length, digits_at, number_below}
+use Rattle.report.proofs.Hex.{digits_at, number_below}
 use Rattle.report.proofs.Words.{words_digits, words_long}
 
 -- a character more
@@ -178,11 +177,13 @@ module _ (s : List ℕ) where
   unfolding line_of
   line_right e z = sym (rw (e, z))
 
--- a part written, character by character, at a place
-pub put_more : (at i b : ℕ) (new s s' : List ℕ) → at + length new ≤ length s → i < length new → b ≡ get_or new i 0 → s' ≡ overwrite at (take i new) s
-    → set s' (at + i) b ≡ overwrite at (take (i + 1) new) s
-put_more at i b new s s' l h e p =
-    rw (p, e, add-one i, take-suc new i 0 h) (overwrite_more at (take i new) s i (get_or new i 0) (length-take-le i new (omega arith)) (omega arith))
+-- a part written in front, character by character
+pub put_more : (i b : ℕ) (new s s' : List ℕ) → length new ≤ length s → i < length new → b ≡ get_or new i 0 → s' ≡ overwrite 0 (take i new) s
+    → set s' i b ≡ overwrite 0 (take (i + 1) new) s
+put_more i b new s s' l h e p =
+    let z : 0 + i ≡ i = omega arith in
+    let m = overwrite_more 0 (take i new) s i (get_or new i 0) (length-take-le i new (omega arith)) (omega arith) in
+    rw (p, e, add-one i, take-suc new i 0 h) (rw z at m)
 
 -- a digit of a number, by its place in the word
 sixteens : (k : ℕ) → 2 ^ (4 * k) ≡ 16 ^ k
@@ -203,17 +204,6 @@ TAIL =
     32 ∷ 48 ∷ 48 ∷ 48 ∷ 48 ∷ 48 ∷ 48 ∷ 48 ∷ 48 ∷ 32 ∷ 48 ∷ 48 ∷ 48 ∷ 48 ∷ 48 ∷ 48 ∷ 48 ∷ 48 ∷ 32 ∷ 48 ∷ 48 ∷ 48 ∷ 48 ∷ 48 ∷ 48 ∷ 48 ∷ 48 ∷ 32 ∷ 48
     ∷ 48 ∷ 48 ∷ 48 ∷ 48 ∷ 48 ∷ 48 ∷ 48 ∷ 32 ∷ 48 ∷ 48 ∷ 48 ∷ 48 ∷ 48 ∷ 48 ∷ 48 ∷ 48 ∷ 10 ∷ []
 
-line_tail : (g : ℕ) → line_text g ≡ digits 8 g ++ TAIL
+pub line_tail : (g : ℕ) → line_text g ≡ digits 8 g ++ TAIL
 unfolding line_text text mark digits digit
 line_tail g = refl
-
-pub line_put : (at g : ℕ) (s s₁ new : List ℕ) → at + 54 ≤ length s → s₁ ≡ overwrite at (digits 8 g) s → new ≡ TAIL
-    → put_mid (at + 8) (at + 54 - (at + 8)) s₁ new ≡ overwrite at (line_text g) s
-line_put at g s s₁ new l e f =
-    let k : at + 54 - (at + 8) ≡ 46 = omega arith in
-    let d = digits_length 8 g in
-    let p : at + 8 ≡ at + length (digits 8 g) = omega arith in
-    let n : length s₁ ≡ length s = ap length e ∙ length_overwrite at (digits 8 g) s in
-    let h : at + 8 + 46 ≤ length s₁ = omega arith in
-    rw (f, k, drop-drop 46 (at + 8) s₁, ← overwrite_fits (at + 8) TAIL s₁ h)
-    (rw (e, line_tail g, p) (overwrite_two at (digits 8 g) TAIL s (omega arith)))

@@ -1,9 +1,9 @@
 // Hexadecimal digits and words of eight of them.
 ghost use Rattle.std.specs.Prelude.{◌≡◌, true, ◌+◌, ◌≤◌, ◌<◌, length, take};
-ghost use Rattle.layout.specs.Bytes.{overwrite};
 ghost use Rattle.report.specs.Words.{digit, value, is_digit, all_digits, digits, number};
 
-// The digit of a character, 16 where it is none.
+// The digit of a character, 16 where it is none: 16 and no `None`, as the definition `value` has it, by which rule 18.3's
+// digits are told apart. By hand: std's `from_str_radix` wants a `str`, and takes upper case and a plus.
 fn value_of(character: u8) -> u32
     ensures { result ≡ value character }
 {
@@ -45,12 +45,13 @@ pub(crate) fn read_word(text: &[u8]) -> u32
     n
 }
 
-// A number as a word, written at a place.
-pub(crate) fn put_word(text: &mut [u8], at: usize, n: u32)
-    requires { at + 8 ≤ length text.old }
-    ensures { text.new ≡ overwrite at (digits 8 n) text.old }
+// A number as a word.
+pub(crate) fn word_of(n: u32) -> [u8; 8]
+    ensures { result ≡ digits 8 n }
 {
+    let mut word = [0u8; 8];
     for i in 0..8 {
-        text[at + i] = digit_of((n >> (28 - 4 * i)) % 16);
+        word[i] = digit_of((n >> (28 - 4 * i)) % 16);
     }
+    word
 }

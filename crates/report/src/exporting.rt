@@ -3,7 +3,7 @@ ghost use Rattle.std.specs.Prelude.{◌≡◌, ◌≤◌, length};
 ghost use Rattle.layout.specs.Bytes.{overwrite};
 ghost use Rattle.report.specs.Export.{lines_text, export_of, text_told, export_told};
 
-use crate::lines::put_line;
+use crate::lines::grant_line;
 use crate::{LINE_LENGTH, REPORT_LENGTH, ReportRefusal};
 use accounts::QUOTAS;
 
@@ -13,7 +13,8 @@ fn put_lines(text: &mut [u8], grants: [u32; QUOTAS])
     ensures { text.new ≡ overwrite 0 (lines_text grants) text.old }
 {
     for i in 0..QUOTAS {
-        put_line(text, LINE_LENGTH * i, grants[i]);
+        let at = LINE_LENGTH * i;
+        text[at..at + LINE_LENGTH].copy_from_slice(&grant_line(grants[i]));
     }
 }
 

@@ -19,8 +19,8 @@ pub const LINE_LENGTH: usize = 54;
 
 pub const REPORT_LENGTH: usize = 1728;
 
-// Why a text is not imported, or grants are not exported, in the order of their numbers: a wrong character or place; a word after the first that is
-// not zero; more lines than quotas; too little room.
+// Why a text is not imported, or grants are not exported, in the order of their numbers: a wrong character or place; a
+// word after the first that is not zero; more lines than quotas; too little room.
 #[derive(Clone, Copy)]
 pub enum ReportRefusal {
     Character,
@@ -36,7 +36,8 @@ pub struct BadLine {
     pub line: u32,
 }
 
-// What import gives: the grants as open takes them, all zero where the text is refused.
+// What import gives: the grants as open takes them, all zero where the text is refused. They stand beside the answer: the
+// clause of `import_grants` promises the zeros, and C gets them.
 #[derive(Clone, Copy)]
 pub struct Imported {
     pub grants: [u32; QUOTAS],

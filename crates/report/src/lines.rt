@@ -1,6 +1,5 @@
 // Lines: six words with a space behind each but the last, and a line feed.
 ghost use Rattle.std.specs.Prelude.{◌≡◌, true, ◌+◌, ◌≤◌, length, drop};
-ghost use Rattle.layout.specs.Bytes.{overwrite};
 ghost use Rattle.report.specs.Words.{word_right, words_right, words, all_zero, line_text};
 ghost use Rattle.report.specs.Import.{line_of};
 
@@ -61,13 +60,11 @@ pub(crate) fn read_line(text: &[u8]) -> Result<u32, ReportRefusal>
     Ok(digits::read_word(text))
 }
 
-// The line of a grant, written at a place.
-pub(crate) fn put_line(text: &mut [u8], at: usize, grant: u32)
-    requires { at + 54 ≤ length text.old }
-    ensures { text.new ≡ overwrite at (line_text grant) text.old }
+// The line of a grant.
+pub(crate) fn grant_line(grant: u32) -> [u8; LINE_LENGTH]
+    ensures { result ≡ line_text grant }
 {
-    digits::put_word(text, at, grant);
-    text[at + 8..at + LINE_LENGTH].copy_from_slice(
-        b" 00000000 00000000 00000000 00000000 00000000\n",
-    );
+    let mut line = *b"00000000 00000000 00000000 00000000 00000000 00000000\n";
+    line[..8].copy_from_slice(&digits::word_of(grant));
+    line
 }

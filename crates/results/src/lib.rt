@@ -8,7 +8,8 @@ use accounts::Accounts;
 use model::{Handle, Refusal};
 use words::WORDS;
 
-// What open gives: the accounts, all zero where it is refused, and the verdict.
+// What open gives: the accounts, all zero where it is refused, and the verdict. The accounts stand beside it: the clause of
+// `open` by value, `open_heap`, promises the zeros.
 #[derive(Clone, Copy)]
 pub struct Opened {
     pub accounts: Accounts,

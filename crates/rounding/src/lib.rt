@@ -25,7 +25,8 @@ pub fn unit(edition: u8, length: u32) -> u32
     }
 }
 
-// The object's length: the least multiple of the unit that is not below the request. It can need more than 32 bits.
+// The object's length: the least multiple of the unit that is not below the request. It can need more than 32 bits. The
+// line is that of the definition `object_length`, word for word.
 // The edition is a number: C lends any byte as one.
 pub fn object_length(edition: u8, length: u32) -> u64
     ensures { result ≡ object_length (table edition) length }

@@ -19,6 +19,7 @@ fn put_entry(store: &mut [u8], at: usize, name: u8, version: u16, value: &[u8])
 }
 
 // An entry behind the used bytes of a store, and its new used length; bytes behind the entry stay. A refusal writes nothing.
+// C lends a store and its used length.
 pub fn add(
     store: &mut [u8],
     used: usize,

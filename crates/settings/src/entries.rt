@@ -14,7 +14,7 @@ fn entry_at(store: &[u8], at: usize) -> Entry
 {
     let start = at + ENTRY_FRONT;
     Entry {
-        version: u16::from(store[at]) + 256 * u16::from(store[at + 1]),
+        version: u16::from_le_bytes([store[at], store[at + 1]]),
         name: store[at + 2],
         start: start,
         end: start + usize::from(store[at + 3]),
@@ -76,7 +76,8 @@ pub(crate) fn used_bytes(store: &[u8], used: usize) -> Result<&[u8], SettingsRef
     store.get(..used).ok_or(SettingsRefusal::Malformed)
 }
 
-// The version of the last of these entries, 0 where there is none.
+// The version of the last of these entries, 0 where there is none: the walk with a closure of its own, as the n-th entry and
+// a name's value are found by it.
 pub(crate) fn last_version(store: &[u8]) -> Result<u16, SettingsRefusal>
     ensures { result ≡ last_of (entries store.now) }
 {

@@ -43,7 +43,8 @@ fn chosen(own: Option<Span>, other: Option<Span>) -> Result<Place, SettingsRefus
         .ok_or(SettingsRefusal::Missing)
 }
 
-// Where the value of a name at a version lies: in the board's store, else in the defaults.
+// Where the value of a name at a version lies: in the board's store, else in the defaults. C lends each store with its
+// used length, here and below.
 pub fn find(
     board: &[u8],
     board_used: usize,

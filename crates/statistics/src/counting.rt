@@ -19,6 +19,7 @@ fn used_at(words: &[u32; WORDS], at: usize) -> usize
 pub(crate) fn used_records(words: &[u32; WORDS]) -> usize
     ensures { result ≡ how_many used (holds_of words.now) }
 {
+    // A record is two words, and `hold_at` reads it by its place: no slice of records is there to iterate over.
     let mut count: usize = 0;
     for i in 0..HOLDS {
         count += used_at(words, i);

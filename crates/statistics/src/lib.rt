@@ -62,7 +62,8 @@ pub struct QuotaStatistics {
     pub shared: usize,
 }
 
-// What is refused: zeros beside the refusal's number.
+// What is refused: zeros beside the refusal's number. Each of the two structs that C gets has such a function: one generic
+// over Default could not write the field `refusal`, and a trait that does is no plainer.
 fn no_statistics(refusal: Refusal) -> Statistics
     ensures { result ≡ no_statistics (refusal_number refusal) }
 {
@@ -82,7 +83,8 @@ fn no_quota_statistics(refusal: Refusal) -> QuotaStatistics
     }
 }
 
-// What was granted to a quota.
+// What was granted to a quota: one word, as survey's `grant_in` reads it, which is private there. A public function of
+// survey for a word is no plainer.
 fn grant_in(words: &[u32; WORDS], quota: usize) -> u32
     requires { quota < QUOTAS }
     ensures { result ≡ grant_in words.now quota }

@@ -2,7 +2,8 @@
 ghost use Rattle.std.specs.Prelude.{◌≡◌, ◌*◌, ◌<◌, ◌≤◌, not, ◌&&◌, leb, eqb};
 ghost use Rattle.statistics.specs.Tallies.{most_units, units_in, reach};
 
-// How many of its units an object has at most, by the edition, a number since C lends any byte as one.
+// How many of its units an object has at most, by the edition. A number, as `words::edition` gives it: an enum would be
+// made for one comparison.
 pub(crate) fn most_units(edition: u8) -> usize
     ensures { (result ≡ most_units edition) × (result ≤ 1023) }
 {
@@ -12,7 +13,8 @@ pub(crate) fn most_units(edition: u8) -> usize
     511
 }
 
-// The units that there is room for, and an object may have.
+// The units that there is room for, and an object may have. That the unit is above 0 is a clause here and in others: it
+// is one of four constants, and a type would wrap a number that is read once.
 fn units_in(room: usize, unit: usize, units: usize) -> usize
     requires { 0 < unit }
     ensures { (result ≡ units_in room unit units) × (result ≤ units) }

@@ -7,7 +7,8 @@ ghost use Rattle.statistics.specs.Tallies.{room_in, both_counts, single, joined,
 use crate::BlockCount;
 use layout::QUARANTINED;
 
-// The free, live and quarantined blocks, the bytes of the largest free block, and the greatest room from a multiple of each unit on.
+// The free, live and quarantined blocks, the bytes of the largest free block, and the greatest room from a multiple of each
+// unit on: four fields, as the struct for C has them.
 #[derive(Clone, Copy, Default)]
 pub(crate) struct Tally {
     pub free: BlockCount,
@@ -31,7 +32,8 @@ fn both_counts(a: BlockCount, b: BlockCount) -> BlockCount
     }
 }
 
-// The bytes of a free block from the lowest multiple of the unit behind its header on.
+// The bytes of a free block from the lowest multiple of the unit behind its header on. The sum by hand and no
+// `next_multiple_of`: the definition `multiple_from` (lookup/specs/Walk.antt) is this sum.
 fn room_in(at: usize, size: usize, unit: usize) -> usize
     requires { (0 < unit) × (unit ≤ 64) × (at + size < 2 ^ 63) }
     ensures { result ≡ room_in unit (record { at = at; size = size; back = 0; serial = 0 }) }

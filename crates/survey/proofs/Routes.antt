@@ -16,7 +16,7 @@ use Rattle.survey.specs.Survey.{fit_place}
 use Rattle.survey.specs.Route.{TAKEN, Searched, Reaches, Seeking, Passed}
 use Rattle.survey.proofs.Blocks.{met_block_at}
 
--- the search as `finder` has it
+-- the search as lookup's `Searching` has it
 pub searching : {p : Met → Bool} {s : List ℕ} {at : ℕ} → Searched p s at → Searching p s at
 searching w = record { fuel = w.fuel; enough = w.enough; same = w.same }
 

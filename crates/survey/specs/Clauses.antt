@@ -47,7 +47,7 @@ sought test serial h = is_of serial h && test h.quota
 abbrev pub Tests : (ℕ → Bool → Type 0) → (ℕ → Bool) → Type 0
 Tests post test = (q : ℕ) → q < 256 → (r : Bool) → post q r → r ≡ test q
 
--- `index` enters every used record, counts them, and finds the lowest unused one
+-- `enter_all` enters every used record, counts them, and finds the lowest unused one
 pub record Index (words heads links : List ℕ) (low used : ℕ) : Type 0 where
   pub well : all well_formed (holds_of words) ≡ true
   pub built : Built words HOLDS heads links

@@ -54,6 +54,7 @@ pub fn survey_of(heap: &[u8], accounts: Accounts, wanted: Wanted) -> Result<Know
 
 // Rule 8.35, the verdict on a heap and its accounting state: refused for its length, refused as inconsistent, or
 // accepted.
+// A match and no `?`: tried, and its edit check_accepts_all was then refused for a name and not for a false fact.
 pub fn check(heap: &[u8], accounts: Accounts) -> Result<(), Refusal>
     ensures { verdict_values result ≡ (check_of (table accounts.edition) heap.now accounts).values }
 {
@@ -97,8 +98,7 @@ fn base_in(at: usize, unit: Alignment) -> usize
     requires { at < 2 ^ 63 }
     ensures { result ≡ multiple_from unit.bytes (at + 8) }
 {
-    let start = at + 8;
-    start + (unit.bytes - 1 - (start - 1) % unit.bytes)
+    (at + 8).next_multiple_of(unit.bytes)
 }
 
 // The block with room by its place, and the base of an object in it. The only multiple of 0 is 0.

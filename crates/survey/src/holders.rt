@@ -10,7 +10,7 @@ use accounts::HOLDS;
 use layout::QUARANTINED;
 use words::WORDS;
 
-// Whether a block with this serial is live.
+// Whether a block with this serial is live. A bool, where `counted` of crate holding gives how many blocks that are.
 fn is_live(serial: u32) -> bool
     ensures { result ≡ (not (serial == 0) && not (serial == QUARANTINED)) }
 {
@@ -35,6 +35,7 @@ fn is_held(words: &[u32; WORDS], index: &HoldIndex, fine: bool, serial: u32) -> 
 
 // The walk over the blocks that puts a flag for each live one.
 // A `while`: each header says where the next block is, and a block that is not live has no flag.
+// `fine` is a flag, as in `is_held`.
 fn put_flags(
     heap: &[u8],
     words: &[u32; WORDS],

@@ -22,8 +22,9 @@ fn are_blank(words: &[u32; WORDS], from: usize, count: usize) -> bool
         return false;
     }
     let mut bits: u32 = 0;
-    for i in 0..2 * count {
-        bits |= words[FIRST + 2 * from + i];
+    let start = FIRST + 2 * from;
+    for word in &words[start..start + 2 * count] {
+        bits |= *word;
     }
     bits == 0
 }
@@ -80,6 +81,8 @@ pub(crate) fn used_top(words: &[u32; WORDS]) -> usize
 // The index of the hold records: the number of each slot and of the two links of each record, and how many records are
 // open. A number is the record's place: there is no heap for nodes. The count stands between the tables so that the
 // compiler fills each of them by itself: valgrind counts 3,841 instructions more where it fills both as one.
+// The words are no part of it, so `Built` and `all well_formed` are clauses, and so is `ReadyFor` of `Unsettled`: C
+// lends them, and each call takes them beside the index.
 #[derive(Drop)]
 pub(crate) struct HoldIndex {
     pub heads: [u16; SLOTS],
@@ -138,7 +141,8 @@ impl HoldIndex {
 
     // The used records before a place are entered from the first place up; from there on all are blank. The answer is
     // the place of the lowest unused record, HOLDS where none is; None where a record is not well-formed.
-    // A number: the pass has the least place in a register.
+    // HOLDS and no Option in the answer: the pass begins with `top`, from which on all are blank, and takes the least
+    // place. An index and no iterator: what is entered of a record is its place.
     pub(crate) fn enter_all(&mut self, words: &[u32; WORDS], top: usize) -> Option<usize>
         requires { (top ≤ HOLDS) × Blank words.now top × Built words.now 0 self.old.heads self.old.links }
         ensures { MatchOption result (all well_formed (holds_of words.now) ≡ false)

@@ -58,6 +58,8 @@ const CLOSED: usize = 2 * HOLDS;
 
 // What a survey is asked for: the object that a handle names, a quota's record for it, and room for `need` bytes at a
 // multiple of `unit`; 0 asks for no room.
+// `unit` 0 and no Option: the definition `find_fit` (lookup/specs/Walk.antt), by which a survey's promise is stated
+// (docs/PROMISES.md), has unit 0 for no room.
 #[derive(Clone, Copy)]
 pub struct Wanted {
     pub base: u32,
@@ -93,7 +95,8 @@ pub fn block_at(heap: &[u8], at: usize) -> Met
 }
 
 // What a survey knows before its walk: the numbers, and the place of the lowest unused record, HOLDS where none is.
-// A number: it waits over the walk, where an `Option` takes twice the stack.
+// A number and no Option: `place`, which two edits of wrong/survey change (place_is_0, place_of_512_taken), makes the
+// Option of it in `survey`.
 #[derive(Clone, Copy)]
 pub(crate) struct Begun {
     pub numbers: Numbers,

@@ -7,7 +7,8 @@ use model::GREATEST_SERIAL;
 use words::WORDS;
 
 // The last serial, kind and edition, in range.
-// Kind and edition are numbers: C lends any byte as either, and refusal 2 answers what is none.
+// Kind and edition are numbers, though in range: `rounding::object_unit` and the definition `table` take the edition's
+// byte, into which the walk would turn an enum back, and the kind is compared with 1 alone.
 #[derive(Clone, Copy)]
 pub(crate) struct Numbers {
     pub last: u32,

@@ -1,5 +1,5 @@
 // What the quotas owe.
-ghost use Rattle.std.specs.Prelude.{◌≡◌, ◌-◌, ◌&&◌, length, if◌then◌else◌, ◌==◌, nat_lt};
+ghost use Rattle.std.specs.Prelude.{◌≡◌, ◌-◌, ◌&&◌, length, ◌==◌};
 ghost use Rattle.accounts.specs.Accounts.{QUOTAS};
 ghost use Rattle.audit.specs.Audit.{all_zero};
 ghost use Rattle.audit.specs.Clauses.{Owing};
@@ -10,33 +10,25 @@ use crate::settling::Unsettled;
 use accounts::{ALL_PERMISSIONS, QUOTAS};
 use words::WORDS;
 
-// Whether a remainder above its grant was met: 1 at such a quota, else as before.
-fn short_at(short: u32, grant: u32, remainder: u32) -> u32
-    ensures { result ≡ (if nat_lt grant remainder then 1 else short) }
-{
-    if grant < remainder {
-        return 1;
-    }
-    short
-}
-
 // What each quota owes; false where a remainder is above its grant, or a number is no quota's permissions (rule 15.2).
 // No quota ends the loop, which is so the faster.
+// A flag and no Option of the debts: they are filled in place, where `Unsettled` has them (settling.rt says why).
+// An index and no iterator: each turn reads three words and writes one debt, all by the quota's number.
 pub(crate) fn owing(words: &[u32; WORDS], owed: &mut [u32; QUOTAS]) -> bool
     ensures { Owing (quotas_of words.now) result owed.new }
 {
-    let mut short: u32 = 0;
+    let mut short = false;
     let mut bits: u32 = 0;
     for i in 0..QUOTAS {
         let grant = grant_in(words, i);
         let remainder = remainder_in(words, i);
         let spare = spare_in(words, i);
         let due = grant.saturating_sub(remainder);
-        short = short_at(short, grant, remainder);
+        short |= grant < remainder;
         bits |= spare;
         owed[i] = due;
     }
-    if short != 0 {
+    if short {
         return false;
     }
     let most = ALL_PERMISSIONS as u32;
@@ -48,8 +40,8 @@ fn is_paid(owed: &[u32; QUOTAS]) -> bool
     ensures { result ≡ all_zero owed.now }
 {
     let mut bits: u32 = 0;
-    for i in 0..QUOTAS {
-        bits |= owed[i];
+    for due in owed {
+        bits |= *due;
     }
     bits == 0
 }

@@ -1,4 +1,6 @@
 // Small functions that read the words, the slots and the links.
+// Crate words has readers of a whole record or quota, which give zeros past the table. Each of these gives one word of
+// it, at a place that a pass knows to lie in the table. A place is any number; accounts/src/lib.rt says why.
 ghost use Rattle.std.specs.Prelude.{◌≡◌, ◌+◌, ◌<◌, ◌≤◌, length, slice_index};
 ghost use Rattle.accounts.specs.Accounts.{QUOTAS, HOLDS};
 ghost use Rattle.words.specs.Words.{serial_in, quota_in, count_in, grant_in, remainder_in, spare_in};

@@ -59,6 +59,7 @@ impl Unsettled {
     // The open records of a serial, in a tree or nowhere: the number of an empty slot is below FORKED, so the first
     // place lies behind the table. False where there is none, or a quota cannot pay.
     // A `while`: the loop follows links, and counts no index.
+    // 0 and 1 in `seen`, and no bools: the definition `pays` (audit/specs/Keys.antt) marks so which quotas have paid.
     fn settle_path(&mut self, words: &[u32; WORDS], serial: u32, charge: usize) -> bool
         requires { (serial ≢ 0) × (HOLDS ≤ slice_index self.old.index.heads (slot serial)) × ReadyFor words.now self.old }
         ensures { SettledBy serial charge words.now self.old result self.new }

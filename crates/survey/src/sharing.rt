@@ -6,7 +6,7 @@ ghost use Rattle.lists.specs.Lists.{all};
 ghost use Rattle.audit.specs.Keys.{well_formed};
 ghost use Rattle.words.specs.Words.{hold_in, holds_of};
 ghost use Rattle.survey.specs.Index.{Built};
-ghost use Rattle.survey.specs.Shares.{one_if, how_many, is_own, is_shared, holdings};
+ghost use Rattle.survey.specs.Shares.{how_many, is_own, is_shared, holdings};
 
 use crate::indexing::{HoldIndex, used_top};
 use crate::reading::{quota_in, serial_in};
@@ -21,39 +21,33 @@ pub struct Holdings {
     pub shared: usize,
 }
 
-// 1 where the record at a place is the quota's own.
-fn own_at(words: &[u32; WORDS], quota: u32, at: usize) -> usize
+// Whether the record at a place is the quota's own.
+fn own_at(words: &[u32; WORDS], quota: u32, at: usize) -> bool
     requires { (at < HOLDS) × (all well_formed (holds_of words.now) ≡ true) }
-    ensures { result ≡ one_if (is_own quota (hold_in words.now at)) }
+    ensures { result ≡ is_own quota (hold_in words.now at) }
 {
     if serial_in(words, at) == 0 {
-        return 0;
+        return false;
     }
-    if quota_in(words, at) == quota {
-        return 1;
-    }
-    0
+    quota_in(words, at) == quota
 }
 
-// 1 where it is, and another quota holds its object too.
-fn shared_at(words: &[u32; WORDS], index: &HoldIndex, quota: u32, at: usize) -> usize
+// Whether it is, and another quota holds its object too.
+fn shared_at(words: &[u32; WORDS], index: &HoldIndex, quota: u32, at: usize) -> bool
     requires { (at < HOLDS) × Built words.now HOLDS index.now.heads index.now.links × (all well_formed (holds_of words.now) ≡ true) }
-    ensures { result ≡ one_if (is_shared (holds_of words.now) quota (hold_in words.now at)) }
+    ensures { result ≡ is_shared (holds_of words.now) quota (hold_in words.now at) }
 {
-    if own_at(words, quota, at) == 0 {
-        return 0;
+    if !own_at(words, quota, at) {
+        return false;
     }
     let serial = serial_in(words, at);
-    if index
+    index
         .on_path(words, serial, |other| other != quota)
         .is_some()
-    {
-        return 1;
-    }
-    0
 }
 
 // The counts over the records that are indexed.
+// One `for` counts both: as chains that filter and count they would be two passes.
 fn held_in(words: &[u32; WORDS], index: &HoldIndex, quota: u32) -> Holdings
     requires { Built words.now HOLDS index.now.heads index.now.links × (all well_formed (holds_of words.now) ≡ true) }
     ensures { result ≡ record {
@@ -64,8 +58,8 @@ fn held_in(words: &[u32; WORDS], index: &HoldIndex, quota: u32) -> Holdings
     let mut objects: usize = 0;
     let mut shared: usize = 0;
     for i in 0..HOLDS {
-        objects += own_at(words, quota, i);
-        shared += shared_at(words, index, quota, i);
+        objects += usize::from(own_at(words, quota, i));
+        shared += usize::from(shared_at(words, index, quota, i));
     }
     Holdings {
         objects: objects,

@@ -21,7 +21,9 @@ const SHORT: usize = 4104 - 16;
 // unit. Sizes and ends are multiples of 8, which is the unit of a short object, so one comparison decides most blocks.
 // A length is a multiple of its unit exactly if it is one of the unit by its leading zeros, and then the two are the
 // same; and then the base is a multiple exactly if the end is.
-// The edition is a number: C lends any byte, and refusal 2 answers what is no edition.
+// The edition is a number: `rounding::object_unit` and the definition `table` take the byte, into which an enum would
+// be turned back here. What is required of a size, here and in others, is a clause: it is a number of the walk's, of
+// one block, and a struct would be made anew for each.
 fn is_fitting(edition: u8, size: usize, end: usize) -> bool
     requires { (size % 8 ≡ 0) × (end % 8 ≡ 0) × (size ≤ end) × (size < 2 ^ 32) }
     ensures { result ≡ (nat_le 16 size && fits_unit (table edition) (end - (size - 8)) (size - 8)) }
@@ -41,7 +43,7 @@ fn is_fitting(edition: u8, size: usize, end: usize) -> bool
 }
 
 // Whether a block is quarantined, long enough, and of the heap's kind.
-// The kind is a number: C lends any byte, and refusal 2 answers what is no kind.
+// The kind is a number: it is compared with 1 alone, so an enum would be made of it for one comparison.
 fn is_waiting(kind: u8, serial: u32, size: usize) -> bool
     ensures { result ≡ (serial == QUARANTINED && (nat_le 16 size && kind == 1)) }
 {
@@ -59,8 +61,9 @@ pub(crate) const TAKEN: usize = 8 * 65536;
 
 // Where the walk has come to: the place, units and serial of the block before it, the place of the first free block
 // with room, and the bytes that are still sought.
-// Numbers: the walk has them in registers. `fit` is the heap's length where no block was found, and `need` is TAKEN
-// where one was, so that one comparison tells for each free block whether it is too small or not sought.
+// Numbers and no Option: `fit` is the heap's length where no block was found, and `need` is TAKEN where one was, as the
+// definition `Seeking` (specs/Route.antt) says. So one comparison tells for each free block whether it is too small or
+// not sought; an Option would be matched before it is compared.
 #[derive(Clone, Copy)]
 pub(crate) struct Walked {
     pub at: usize,
@@ -107,6 +110,7 @@ impl Unsettled {
 }
 
 // Whether a block that ends at a place is free and has room for `need` bytes at a multiple of `unit`.
+// By the gap and no `next_multiple_of`: what is needed is compared with the room, and the base is not asked for.
 fn is_roomy(serial: u32, size: usize, end: usize, unit: Alignment, need: usize) -> bool
     requires { (8 ≤ size) × (size ≤ end) × (size < 2 ^ 32) }
     ensures { result ≡ has_room unit.bytes need (record { at = end - size; size = size; back = 0; serial = serial }) }

@@ -10,6 +10,7 @@ use layout::QUARANTINED;
 use lookup::Met;
 
 // The bytes that are left where a block may start whose object has a base; 8, which is the end, where no object has it.
+// 8 and no None: the walk ends at edge 8, so it goes there in one part. The definition `edge_of` has 8 too.
 pub(crate) fn edge_of(base: u32, len: usize) -> usize
     ensures { (result ≡ edge_of base len) × (8 ≤ result) }
 {
@@ -32,6 +33,7 @@ pub(crate) struct Alignment {
 }
 
 // The alignment that is sought, 1 where none is.
+// 1 and no None: the walk takes an alignment, and `need_of` says that nothing is sought.
 pub(crate) fn unit_of(unit: u32) -> Alignment
     ensures { (unit ≢ 0) → result.bytes ≡ unit }
 {
@@ -44,6 +46,7 @@ pub(crate) fn unit_of(unit: u32) -> Alignment
 }
 
 // The bytes that are sought, more than any block has where none are.
+// TAKEN and no None, as in `Walked`.
 pub(crate) fn need_of(unit: u32, need: usize) -> usize
     ensures { (unit ≢ 0) → result ≡ need }
 {
@@ -54,6 +57,7 @@ pub(crate) fn need_of(unit: u32, need: usize) -> usize
 }
 
 // The place of the block with room, the heap's length where none is sought.
+// The length and no None, as in `Walked`; `room` makes the Option of it.
 pub(crate) fn fit_of(unit: u32, fit: usize, len: usize) -> usize
     ensures { result ≡ (if nat_eq unit 0 then len else fit) }
 {

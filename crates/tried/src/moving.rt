@@ -61,6 +61,8 @@ fn moves_no_form_1_down() -> bool {
 }
 
 // What compare gives of two images and a number.
+// Replies are compared field by field, here and in the other files: their structs are made for C and derive no equality,
+// and one derived there for this program alone is no plainer.
 fn compares(one: &[u8], two: &[u8], n: usize, wanted: CompareReply) -> bool {
     let reply = exports::lokhazim_image_compare(one, two, n);
     if reply.refusal != wanted.refusal || reply.which != wanted.which || reply.kind != wanted.kind {

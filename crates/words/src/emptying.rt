@@ -29,6 +29,7 @@ pub fn drop_holds(words: &mut [u32; WORDS], quota: u8)
     ensures holds { accounts_of words.new ≡ with_holds (drop_records quota (holds_of words.old)) (accounts_of words.old) }
     ensures pads { Padded words.old words.new }
 {
+    // A record is two words, and `drop_at` finds them by its place: no slice of records is there to iterate over.
     for at in 0..HOLDS {
         drop_at(words, at, quota);
     }

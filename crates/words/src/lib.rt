@@ -1,6 +1,7 @@
 // The accounts as words where they lie: grant, remainder and permissions of each quota, the last serial, serial and quota
 // with count of each hold record, then kind and edition. The definitions in specs/ say which accounts some words hold. The
 // functions read and change the accounts that the words hold, as the methods of the accounts do; padding stays as it was.
+// Both stand: docs/PROMISES.md names both, the methods for accounts by value, and these since C lends words.
 // A call of the heap takes the heap's bytes and these words as two parameters, and no struct of both: C lends two places.
 #![tactic(auto)]
 

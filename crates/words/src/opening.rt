@@ -51,7 +51,7 @@ fn put_grant(words: &mut [u32; WORDS], q: usize, grant: u32)
     put_quota(words, q, quota);
 }
 
-// The kind and the edition, as numbers: a restore writes the bytes of an image, which can be any.
+// The kind and the edition, as numbers: `image::accounts_in` writes the bytes of an image, which can be any.
 pub fn put_kinds(words: &mut [u32; WORDS], kind: u8, edition: u8)
     ensures holds { accounts_of words.new ≡ with_kinds kind edition (accounts_of words.old) }
     ensures pads { Padded words.old words.new }

@@ -108,14 +108,14 @@ pub fn last_serial(words: &[u32; WORDS]) -> u32
     word_at(words, LAST)
 }
 
-// The heap's kind as a number.
+// The heap's kind. A number: C lends any byte as one.
 pub fn kind(words: &[u32; WORDS]) -> u8
     ensures { result ≡ (accounts_of words.now).kind }
 {
     (word_at(words, KINDS) % 256) as u8
 }
 
-// The heap's edition as a number.
+// The heap's edition. A number: C lends any byte as one.
 pub fn edition(words: &[u32; WORDS]) -> u8
     ensures { result ≡ (accounts_of words.now).edition }
 {

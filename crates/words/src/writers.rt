@@ -8,7 +8,8 @@ use crate::readers::{left_permissions, word_at};
 use crate::{FIRST, LAST, WORDS};
 use accounts::{HOLDS, Hold, QUOTAS};
 
-// The remainder of a quota is what the function makes of it; where there is no such quota, nothing changes.
+// The remainder of a quota is what the function makes of it; where there is no such quota, nothing changes. `charge` and
+// `refund` share it: they stay two, since callers name them, and each has its own closure and nothing more.
 fn change_remainder<F: FnOnce(u32) -> u32>(words: &mut [u32; WORDS], quota: u32, change: F)
     requires { F.IsAlwaysCallable change }
     ensures { Makes (F.post change) quota words.old words.new }

@@ -74,8 +74,9 @@ fn join_neighbours(heap: &mut [u8], block: Met, front: Room, behind: usize) -> u
     stop
 }
 
-// A live block becomes free and joins its free neighbours; the end of the free block that this makes is given. The first block has no other in front
-// of it and meets itself there, which is not free.
+// A live block becomes free and joins its free neighbours; the end of the free block that this makes is given. The first
+// block has no other in front of it and meets itself there, which is not free. That the block lies inside is a clause and
+// no type, here and below: it speaks of the block and of the heap, and the heap changes.
 fn make_free(heap: &mut [u8], block: Met) -> usize
     requires { Inside block heap.old }
     ensures frees { heap.new ≡ free_block block heap.old }
@@ -112,7 +113,7 @@ fn is_inside(heap: &[u8], block: Met) -> bool
 }
 
 // Rules 8.18 and 22.3, what becomes of a live block that nobody holds: in a plain heap it is free and joins, else it
-// waits. The end of the block that this makes is given. The kind is a number: C lends any byte as one.
+// waits. The end of the block that this makes is given. The kind is a number, as `vacate_block` has it.
 fn make_vacant(heap: &mut [u8], block: Met, kind: u8) -> usize
     requires { Inside block heap.old }
     ensures leaves { heap.new ≡ vacate_block kind block heap.old }
@@ -127,8 +128,9 @@ fn make_vacant(heap: &mut [u8], block: Met, kind: u8) -> usize
     at + size
 }
 
-// The same; nothing is written, and 0 is given, where the block does not lie in the heap. The kind is a number: C lends any
-// byte as one.
+// The same; nothing is written, and 0 is given, where the block does not lie in the heap: 0 and no `None`, since its
+// clause `ends` promises that, which docs/PROMISES-QUARANTINE.md names. The kind is a number: its clauses `leaves` and
+// `ends` promise what they do for every number.
 pub fn vacate_block(heap: &mut [u8], block: Met, kind: u8) -> usize
     ensures leaves { heap.new ≡ vacate_in kind block heap.old }
     ensures ends { result ≡ vacate_end_in kind block heap.old }
@@ -157,7 +159,8 @@ fn make_unquarantined(heap: &mut [u8], block: Met) -> usize
     join_neighbours(heap, block, front, behind.free)
 }
 
-// The same; nothing is written, and 0 is given, where the block does not lie in the heap.
+// The same; nothing is written, and 0 is given, where the block does not lie in the heap. The 0 and the guard are those
+// of `vacate_block`: a function that takes what follows it as a closure would be no shorter.
 pub fn unquarantine_block(heap: &mut [u8], block: Met) -> usize
     ensures frees { heap.new ≡ unquarantine_in block heap.old }
     ensures ends { result ≡ free_end_in block heap.old }

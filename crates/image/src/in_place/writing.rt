@@ -75,7 +75,8 @@ fn put_image(
     put_with(image, &mut head[..end], form, heap, words)
 }
 
-// Rule 8.35's verdict on the heap and its accounts.
+// Rule 8.35's verdict on the heap and its accounts: as `queries::check`, on which this crate is not built. A function of
+// `survey` for both would be the one call of the survey below again, and is no plainer.
 fn verdict_on(heap: &[u8], words: &[u32; WORDS]) -> Result<(), Refusal>
     ensures { verdict_values result ≡ (check (table (edition_of words.now)) heap.now (accounts_of words.now)).values }
 {
@@ -92,10 +93,8 @@ pub fn write_image(
 ) -> Result<usize, ImageRefusal>
     ensures { imaged image.new result ≡ write_image form_2 image.old heap.now (accounts_of words.now) }
 {
-    match verdict_on(heap, words) {
-        Ok(()) => put_image(image, form_2(), heap, words),
-        Err(refusal) => Err(ImageRefusal::Call(refusal)),
-    }
+    verdict_on(heap, words)?;
+    put_image(image, form_2(), heap, words)
 }
 
 // The same in form 1, which not all accounts fit.
@@ -106,8 +105,6 @@ pub fn write_form_1(
 ) -> Result<usize, ImageRefusal>
     ensures { imaged image.new result ≡ write_image form_1 image.old heap.now (accounts_of words.now) }
 {
-    match verdict_on(heap, words) {
-        Ok(()) => put_image(image, form_1(), heap, words),
-        Err(refusal) => Err(ImageRefusal::Call(refusal)),
-    }
+    verdict_on(heap, words)?;
+    put_image(image, form_1(), heap, words)
 }

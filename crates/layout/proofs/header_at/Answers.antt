@@ -11,9 +11,6 @@ returns-then-not-ends_by c =
     let l = c.ends_by.ensures.no (not-true _ c.if-not-ends_by.true-raw) in
     (sym (header_not a.at a.heap.now l), omega arith)
 
-pub read_header-requires : goal.read_header-requires
-read_header-requires c = let l = c.ends_by.ensures.yes (not-false _ c.if-not-ends_by.false-raw) in omega arith
-
 pub returns : goal.returns
 returns c =
     let a = c.args in

@@ -65,18 +65,6 @@ overflow_sub-result c =
     let f = ap (λ (y : Tally). y.free.bytes) t.walk-tally.ensures in
     omega (arith, l, x, f)
 
-pub reach-requires : goal.reach-requires
-reach-requires c = (omega arith, omega arith, c.most_units-units.ensures.1)
-
-pub reach-requires-2 : goal.reach-requires-2
-reach-requires-2 c = (omega arith, omega arith, c.most_units-units.ensures.1)
-
-pub reach-requires-3 : goal.reach-requires-3
-reach-requires-3 c = (omega arith, omega arith, c.most_units-units.ensures.1)
-
-pub reach-requires-4 : goal.reach-requires-4
-reach-requires-4 c = (omega arith, omega arith, c.most_units-units.ensures.1)
-
 -- the units of the heap's edition
 units_of : (c : After-struct_known-1) → c.most_units-units.result ≡ most_units (edition_of c.args.words.now)
 units_of c = let m = c in m.most_units-units.ensures.0 ∙ ap most_units m.edition.ensures

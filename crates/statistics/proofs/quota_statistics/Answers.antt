@@ -46,9 +46,6 @@ returns-then-quota-ge-QUOTAS c =
     (check_accepts u s k e.check.result e.check.ensures (line_3 a.quota ∷ []) o.in_default.is
     ∙ line_3_refuses a.quota [] i.if-quota-ge-QUOTAS.true)
 
-pub grant_in-requires : goal.grant_in-requires
-grant_in-requires c = c.if-quota-ge-QUOTAS.false
-
 pub returns : goal.returns
 unfolding quota_statistics quota_counted row_lines first_refusal
 returns c =

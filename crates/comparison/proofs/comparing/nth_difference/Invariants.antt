@@ -6,8 +6,8 @@ use Rattle.comparison.specs.Differences.{state_in, differences}
 use Rattle.comparison.specs.Positions.{differences_from}
 use Rattle.comparison.proofs.comparing.nth_difference.Given as goal
 
-abbrev pub invariant-loop-i : goal.invariant-loop-i
-invariant-loop-i l =
+abbrev pub invariant-loop : goal.invariant-loop
+invariant-loop l =
     let s = state_in l.first in
     let t = state_in l.second in
-    slice_get (differences_from l.from s t) (l.n - l.i) ≡ slice_get (differences s t) l.n
+    slice_get (differences_from l.from s t) (l.n - l.counter) ≡ slice_get (differences s t) l.n

@@ -24,15 +24,15 @@ returns-in_err-from c =
     ∙ bytes_none a.first.now a.second.now c.heap_place-one.result.start c.heap_place-two.result.start c.min-end.result
     (ap start_of c.heap_place-one.ensures) (ap start_of c.heap_place-two.ensures)
     (e ∙ (λ i. min (c.heap_place-one.ensures i).size (c.heap_place-two.ensures i).size))
-    a.at (MatchOption-at_none _ _ c.in_err-from.was c.find_unlike.ensures)
+    a.at (MatchOption-at_none _ _ c.in_err-from.was c.find_byte.ensures)
 
 pub returns : goal.returns
 returns c =
     let a = c.args in
     let e = least (goal.at.returns c).After-min-end in
-    let w = MatchOption-at_some _ _ _ c.in_ok-from.was c.find_unlike.ensures in
+    let w = MatchOption-at_some _ _ _ c.in_ok-from.was c.find_byte.ensures in
     rw c.unwrap_or-to.ensures
     (bytes_found a.first.now a.second.now c.heap_place-one.result.start c.heap_place-two.result.start c.min-end.result
     (ap start_of c.heap_place-one.ensures) (ap start_of c.heap_place-two.ensures)
     (e ∙ (λ i. min (c.heap_place-one.ensures i).size (c.heap_place-two.ensures i).size))
-    a.at c.in_ok-from.from c.find_like.result w c.find_like.ensures)
+    a.at c.in_ok-from.from c.find_byte-2.result w c.find_byte-2.ensures)

@@ -1,6 +1,5 @@
 use native.Mathlib.Omega.{arith}
-use borrow.Author.Count.{below_none, below_more}
-use borrow.Author.Tests.{eq-eqb, ne_eqb}
+use borrow.Author.Tests.{ne_eqb}
 use mathlib.Core.Path.{ap, sym, ◌∙◌}
 use Rattle.accounts.specs.Accounts.{zero_quota}
 use Rattle.words.specs.Words.{quotas_of}
@@ -9,9 +8,6 @@ use Rattle.audit.proofs.Tables.{all_places, all_fails}
 use Rattle.image_model.specs.Stream.{all_permitted}
 use Rattle.image.proofs.entries.are_permitted.Goals as goal
 
-pub loop-i-init : goal.loop-i-init
-loop-i-init c = below_none _
-
 pub returns-then-quota-ne-ALL_PERMISSIONS : goal.returns-then-quota-ne-ALL_PERMISSIONS
 returns-then-quota-ne-ALL_PERMISSIONS c =
     let q = c in
@@ -19,12 +15,6 @@ returns-then-quota-ne-ALL_PERMISSIONS c =
     let words = l.args.words.now in
     sym (all_fails all_permitted zero_quota (quotas_of words) l.loop-i.i (omega (arith, quotas_long words))
     (ap all_permitted (sym q.quota_at-quota.ensures) ∙ ne_eqb _ _ c.if-quota-ne-ALL_PERMISSIONS.true))
-
-pub loop-i-preserved : goal.loop-i-preserved
-loop-i-preserved c =
-    let q = c in
-    let l = q in
-    below_more _ _ l.loop-i.invariant (ap all_permitted (sym q.quota_at-quota.ensures) ∙ eq-eqb _ _ c.if-quota-ne-ALL_PERMISSIONS.false)
 
 pub returns : goal.returns
 returns c =

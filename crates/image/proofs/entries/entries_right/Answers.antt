@@ -5,7 +5,7 @@ use borrow.Author.Tests.{not-true, not-false}
 use Rattle.framing.specs.Frames.{stream_of}
 use Rattle.image_model.specs.Stream.{entries_at, entry_width}
 use Rattle.image_model.specs.Reading.{entry_right}
-use Rattle.image.proofs.Items.{every_all, every_none, every_stops, every_goes_on, every_passes}
+use Rattle.image.proofs.Items.{every_none, every_stops, every_goes_on, every_passes}
 use Rattle.image.proofs.Decoding.{tail_here, entries_pass}
 use Rattle.image.proofs.entries.entries_right.Goals as goal
 
@@ -14,12 +14,6 @@ returns-then-not-form c =
     let a = c.args in
     sym (every_passes (entry_right a.form) (entry_width a.form) a.form.quotas (drop entries_at (stream_of a.image.now))
     (entries_pass a.form (not-true _ c.if-not-form.true)))
-
-pub loop-i-init : goal.loop-i-init
-loop-i-init c =
-    let a = c.args in
-    let t = stream_of a.image.now in
-    every_all (entry_right a.form) (entry_width a.form) a.form.quotas (drop entries_at t)
 
 pub returns-then-not-are_permissions : goal.returns-then-not-are_permissions
 returns-then-not-are_permissions c =

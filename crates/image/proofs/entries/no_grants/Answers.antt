@@ -1,15 +1,12 @@
 use native.Mathlib.Omega.{arith}
 use borrow.Author.Tests.{eq-eqb, ne_eqb}
-use mathlib.Core.Path.{refl, ap, sym, ◌∙◌}
+use mathlib.Core.Path.{ap, sym, ◌∙◌}
 use Rattle.accounts.specs.Accounts.{zero_quota}
 use Rattle.words.specs.Words.{quotas_of}
 use Rattle.words.proofs.Words.{quotas_long}
 use Rattle.image_model.specs.Stream.{no_grant}
 use Rattle.image.proofs.Zeros.{all_stop, all_go_on, all_end}
 use Rattle.image.proofs.entries.no_grants.Goals as goal
-
-pub loop-i-init : goal.loop-i-init
-loop-i-init c = refl
 
 pub returns-then-quota-ne0 : goal.returns-then-quota-ne0
 returns-then-quota-ne0 c =

@@ -1,13 +1,11 @@
 use native.Mathlib.Omega.{arith}
 use mathlib.Core.Path.{◌≡◌, ap, ◌∙◌}
 use Prim.Native.Nat.{ℕ}
-use lib.ListN.{length, take, get_or}
+use lib.ListN.{length, get_or}
 use Rattle.accounts.specs.Accounts.{QUOTAS, zero_quota}
 use Rattle.words.specs.Words.{quotas_of}
 use Rattle.words.proofs.Words.{quotas_long}
 use Rattle.layout.specs.Bytes.{overwrite}
-use Rattle.layout.proofs.Overwrite.{length_overwrite}
-use Rattle.image_model.specs.Items.{many}
 use Rattle.image_model.specs.Stream.{entry_bytes, entry_width}
 use Rattle.image_model.proofs.Entries.{entry_length}
 use Rattle.image.proofs.Items.{written_none, written_more}
@@ -15,25 +13,10 @@ use Rattle.image.proofs.Heads.{entry_inside}
 use Rattle.image.proofs.entries.write_entries.Goals as goal
 use Rattle.image.proofs.entries.write_entries.Goals.{At-loop-i}
 
--- the length stays
-len : (c : At-loop-i) → length c.loop-i.head ≡ length c.args.head.now
-len c =
-    let a = c.args in
-    let f = a.form in
-    ap length (c.loop-i.invariant) ∙ length_overwrite 12 (many (entry_bytes f) (take c.loop-i.i (quotas_of a.words.now))) a.head.now
-
 pub loop-i-init : goal.loop-i-init
 loop-i-init c =
     let a = c.args in
     written_none (entry_bytes a.form) (entry_width a.form) (entry_length a.form) 12 (quotas_of a.words.now) a.head.now
-
-pub write_entry-requires : goal.write_entry-requires
-write_entry-requires c =
-    let at = c in
-    let start = at in
-    let a = start.args in
-    let n = entry_inside at.loop-i.i a.form.quotas (entry_width a.form) (length a.head.now) (omega arith) start.requires.1 in
-    omega (arith, n, len (goal.at.write_entry-requires c).At-loop-i, c.entry_at.ensures.0)
 
 pub loop-i-preserved : goal.loop-i-preserved
 loop-i-preserved c =
@@ -56,13 +39,3 @@ loop-i-preserved c =
     ∙ (λ j. overwrite p.entry_at.result (entry_bytes f (q.quota_at-quota.ensures j)) at.loop-i.head)
     ∙ ap (λ (n : ℕ). overwrite n (entry_bytes f (get_or (quotas_of a.words.now) i zero_quota)) at.loop-i.head)
     p.entry_at.ensures.0)
-
-pub shape_of-head : goal.shape_of-head
-shape_of-head c = len (goal.at.shape_of-head c).At-loop-i
-
-pub returns : goal.returns
-returns c =
-    let at = c in
-    let a = at.args in
-    let e : at.loop-i.i ≡ a.form.quotas = omega arith in
-    at.loop-i.invariant ∙ ap (λ (n : ℕ). overwrite 12 (many (entry_bytes a.form) (take n (quotas_of a.words.now))) a.head.now) e

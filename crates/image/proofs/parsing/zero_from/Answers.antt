@@ -1,12 +1,9 @@
 use native.Mathlib.Omega.{arith}
-use mathlib.Core.Path.{refl, sym, ◌∙◌}
+use mathlib.Core.Path.{sym, ◌∙◌}
 use Rattle.framing.specs.Frames.{stream_of}
 use Rattle.framing.proofs.Places.{stream_length}
 use Rattle.image.proofs.Zeros.{zeros_stop, zeros_go_on, zeros_end}
 use Rattle.image.proofs.parsing.zero_from.Goals as goal
-
-pub loop-at-init : goal.loop-at-init
-loop-at-init c = refl
 
 pub returns-then-stream_at-ne0 : goal.returns-then-stream_at-ne0
 returns-then-stream_at-ne0 c =

@@ -7,7 +7,7 @@ use Rattle.words.specs.Words.{accounts_of}
 use Rattle.framing.specs.Frames.{padded, stream_of}
 use Rattle.framing.proofs.Padding.{length_padded}
 use Rattle.model.specs.Consistent.{allowed}
-use Rattle.image.proofs.Restores.{check_consistent, check_unsound}
+use Rattle.image.proofs.Restores.{check_answers}
 use Rattle.image.proofs.reading.is_consistent_in.Goals as goal
 use Rattle.image.proofs.reading.is_consistent_in.Goals.{Start}
 
@@ -18,18 +18,10 @@ stream c = drop c.args.from (stream_of c.args.image.now)
 abbrev heap : Start → List ℕ
 heap c = padded c.args.size (stream c)
 
-pub returns-in_default : goal.returns-in_default
-returns-in_default c =
-    let k = c in
-    let s = k in
-    check_unsound (heap (goal.at.returns-in_default c).Start) (heap (goal.at.returns-in_default c).Start) (accounts_of s.args.words.now)
-    k.check_in_frames.result k.check_in_frames.ensures refl
-    (ap allowed (length_padded s.args.size (stream (goal.at.returns-in_default c).Start)) ∙ s.requires) c.in_default.field-0 c.in_default.is
-
 pub returns : goal.returns
 returns c =
-    let k = c in
-    let s = k in
-    check_consistent (heap (goal.at.returns c).Start) (heap (goal.at.returns c).Start) (accounts_of s.args.words.now) k.check_in_frames.result
-    k.check_in_frames.ensures refl
-    c.in-Ok.is
+    let a = c.args in
+    c.is_ok.ensures.value
+    ∙ check_answers (heap (goal.at.returns c).Start) (heap (goal.at.returns c).Start) (accounts_of a.words.now)
+    c.check_in_frames.result c.check_in_frames.ensures refl
+    (ap allowed (length_padded a.size (stream (goal.at.returns c).Start)) ∙ c.requires)

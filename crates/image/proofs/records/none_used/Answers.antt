@@ -1,14 +1,11 @@
 use native.Mathlib.Omega.{arith}
-use mathlib.Core.Path.{refl, ap, sym, ◌∙◌}
+use mathlib.Core.Path.{ap, sym, ◌∙◌}
 use mathlib.Core.Bool.{not}
 use Rattle.accounts.specs.Accounts.{zero_hold, unused, hold_at}
 use Rattle.words.specs.Words.{holds_of}
 use Rattle.words.proofs.Words.{holds_long}
 use Rattle.image.proofs.Zeros.{all_stop, all_go_on, all_end}
 use Rattle.image.proofs.records.none_used.Goals as goal
-
-pub loop-i-init : goal.loop-i-init
-loop-i-init c = refl
 
 pub returns-then-is_used : goal.returns-then-is_used
 unfolding unused hold_at

@@ -4,12 +4,9 @@ use lib.ListN.{drop}
 use Rattle.framing.specs.Frames.{stream_of}
 use Rattle.image_model.specs.Stream.{record_width}
 use Rattle.image_model.specs.Reading.{record_right}
-use Rattle.image.proofs.Items.{every_all, every_none, every_stops, every_goes_on}
+use Rattle.image.proofs.Items.{every_none, every_stops, every_goes_on}
 use Rattle.image.proofs.Decoding.{spare_wrong, spare_right}
 use Rattle.image.proofs.records.spares_right.Goals as goal
-
-pub loop-i-init : goal.loop-i-init
-loop-i-init c = let a = c.args in every_all record_right record_width a.count (drop a.at (stream_of a.image.now))
 
 pub returns-then-read_pair-ne0 : goal.returns-then-read_pair-ne0
 returns-then-read_pair-ne0 c =

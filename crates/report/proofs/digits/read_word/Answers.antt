@@ -1,7 +1,6 @@
 use native.Mathlib.Omega.{arith}
-use mathlib.Core.Path.{◌≡◌, refl, ap, ◌∙◌}
-use Prim.Native.Nat.{ℕ}
-use lib.ListN.{take, get_or}
+use mathlib.Core.Path.{refl}
+use lib.ListN.{get_or}
 use Rattle.report.specs.Words.{value, number}
 use Rattle.report.proofs.Loops.{read_more}
 use Rattle.report.proofs.digits.read_word.Goals as goal
@@ -36,10 +35,3 @@ loop-i-preserved c =
     let e = read_more a.text.now s.requires.0 s.requires.1 l.loop-i.i l.loop-i.n c.value_of.result (omega arith) l.loop-i.invariant
     c.value_of.ensures in
     e.0
-
-pub returns : goal.returns
-returns c =
-    let l = c in
-    let a = l.args in
-    let e : l.loop-i.i ≡ 8 = omega arith in
-    l.loop-i.invariant ∙ ap (λ (k : ℕ). number (take k a.text.now)) e

@@ -1,11 +1,7 @@
 use native.Mathlib.Omega.{arith}
-use mathlib.Core.Path.{refl}
 use Prim.Native.Nat.{◌*◌}
 use Rattle.report.proofs.Loops.{tail_is, zero_stops, zero_goes_on, zero_ends, word_digits}
 use Rattle.report.proofs.lines.is_rest_zero.Goals as goal
-
-pub loop-k-init : goal.loop-k-init
-loop-k-init c = refl
 
 pub read_word-requires : goal.read_word-requires
 read_word-requires c =

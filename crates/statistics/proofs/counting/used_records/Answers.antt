@@ -7,12 +7,9 @@ use Rattle.words.specs.Words.{holds_of}
 use Rattle.words.proofs.Words.{holds_long, holds_at}
 use Rattle.words.proofs.Readings.{hold_is}
 use Rattle.survey.specs.Shares.{one_if}
-use Rattle.survey.proofs.Counting.{Counted, counted_start, counted_next, counted_all}
+use Rattle.survey.proofs.Counting.{Counted, counted_next, counted_all}
 use Rattle.statistics.proofs.counting.used_records.Goals as goal
 use Rattle.statistics.proofs.counting.used_records.Goals.{After-used_at-count}
-
-pub loop-i-init : goal.loop-i-init
-loop-i-init c = counted_start used (holds_of c.args.words.now) zero_hold
 
 -- one record more is counted
 next : (c : After-used_at-count)
@@ -24,9 +21,6 @@ next c =
     let t = c.loop-i-test.true in
     counted_next used (holds_of w) zero_hold l.loop-i.invariant (omega (arith, holds_long w, t)) c.used_at-count.result
     (c.used_at-count.ensures ∙ ap (λ (h : Hold). one_if (used h)) (sym (hold_is w l.loop-i.i t) ∙ sym (holds_at w l.loop-i.i t)))
-
-pub overflow_add-count : goal.overflow_add-count
-overflow_add-count c = let n = next c in omega (arith, n.few, c.loop-i-test.true)
 
 pub loop-i-preserved : goal.loop-i-preserved
 loop-i-preserved c = next c

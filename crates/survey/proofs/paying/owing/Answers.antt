@@ -1,4 +1,4 @@
-use Rattle.std.proofs.Common.{◌≡◌, ℕ, ◌%◌, ◌≤◌, Bool, cond, ◌&&◌, ltb, leb, get_or, sym, ap, ◌∙◌, arith, eq-eqb}
+use Rattle.std.proofs.Common.{◌≡◌, ℕ, ◌%◌, ◌≤◌, Bool, not, ◌&&◌, ◌||◌, ltb, leb, get_or, sym, ap, ◌∙◌, arith}
 use lib.Bits.{bit_or, or_mod}
 use Rattle.accounts.specs.declared.Quota.{Quota}
 use Rattle.accounts.specs.Accounts.{QUOTAS, zero_quota}
@@ -23,7 +23,7 @@ loop-i-preserved c =
     let permissions : p.spare_in-spare.result % 256 ≡ x.permissions =
     ap (λ (y : ℕ). y % 256) p.spare_in-spare.ensures ∙ sym (ap (λ (y : Quota). y.permissions) q) in
     tallied_more l.loop-i.invariant (quotas_long ws) t.loop-i-test.true
-    (c.short_at-short.ensures ∙ (λ j. cond (ltb (grant j) (remainder j)) 1 l.loop-i.short))
+    (λ j. l.loop-i.short || ltb (grant j) (remainder j))
     (or_mod l.loop-i.bits p.spare_in-spare.result 8 ∙ ap (bit_or (l.loop-i.bits % 256)) permissions)
     (λ h. omega (arith, w.saturating_sub-due.ensures, grant, remainder))
 
@@ -31,8 +31,8 @@ pub returns : goal.returns
 returns c =
     let l = c in
     let ws = l.args.words.now in
+    let short = c.if-short.false in
     let h : QUOTAS ≤ l.loop-i.i = omega (arith, c.loop-i-test.false) in (
-      sym (tallied_end l.loop-i.invariant (quotas_long ws) h ∙ ap (λ (b : Bool). b && leb (l.loop-i.bits % 256) 7)
-          (eq-eqb l.loop-i.short 0 c.if-short-ne0.false)),
-      λ e. tallied_dues l.loop-i.invariant (quotas_long ws) h c.if-short-ne0.false,
+      sym (tallied_end l.loop-i.invariant (quotas_long ws) h ∙ ap (λ (b : Bool). not b && leb (l.loop-i.bits % 256) 7) short),
+      λ e. tallied_dues l.loop-i.invariant (quotas_long ws) h short,
     )

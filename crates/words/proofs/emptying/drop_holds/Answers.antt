@@ -1,12 +1,9 @@
 use native.Mathlib.Omega.{arith}
 use Rattle.words.specs.Words.{accounts_of}
 use Rattle.words.proofs.Words.{holds_long}
-use Rattle.words.proofs.Padding.{padded_same, padded_on}
-use Rattle.words.proofs.Dropping.{drops_none, drops_more, drops_all}
+use Rattle.words.proofs.Padding.{padded_on}
+use Rattle.words.proofs.Dropping.{drops_more, drops_all}
 use Rattle.words.proofs.emptying.drop_holds.Goals as goal
-
-pub loop-at-init : goal.loop-at-init
-loop-at-init c = let a = c.args in (drops_none a.quota (accounts_of a.words.now), padded_same a.words.now)
 
 pub loop-at-preserved : goal.loop-at-preserved
 loop-at-preserved c =

@@ -1,23 +1,13 @@
 use mathlib.Core.Path.{◌∙◌}
 use Rattle.words.specs.Words.{accounts_of}
 use Rattle.words.proofs.Padding.{unpadded_on, blank_unpadded}
-use Rattle.words.proofs.Openings.{blank_zero, granting_start, granting_more, granting_all}
+use Rattle.words.proofs.Openings.{blank_zero, granting_start, granting_all}
 use Rattle.words.proofs.opening.open.Goals as goal
 
 pub loop-i-init : goal.loop-i-init
 loop-i-init c =
     let b = c.wipe.ensures in
     (granting_start c.args.grants _ (blank_zero _ b), blank_unpadded b)
-
-pub loop-i-preserved : goal.loop-i-preserved
-loop-i-preserved c =
-    let n = c in
-    let at = n in
-    let a = at.args in
-    let l = at.loop-i in (
-      granting_more a.grants l.i (accounts_of l.words) _ l.invariant.0 n.loop-i-test.true c.put_grant.ensures.holds,
-      unpadded_on l.invariant.1 c.put_grant.ensures.pads,
-    )
 
 pub returns : goal.returns
 returns c =

@@ -1,10 +1,8 @@
 -- The quotas, the last serial, the records, the kind and the edition are put one after the other; each leaves what was put before it.
 use mathlib.Core.Path.{ap, ◌∙◌}
-use native.Mathlib.Omega.{arith}
 use Rattle.accounts.specs.declared.Accounts.{Accounts}
 use Rattle.words.proofs.Padding.{unpadded_on}
 use Rattle.framing.specs.Frames.{stream_of}
-use Rattle.image_model.specs.declared.Form.{Form}
 use Rattle.image_model.specs.Stream.{tail_width}
 use Rattle.image.proofs.Said.{accounts_read}
 use Rattle.image.proofs.in_place.reading.put_accounts.Goals as goal
@@ -13,22 +11,6 @@ pub put_entries-requires : goal.put_entries-requires
 put_entries-requires c =
     let b = c in
     (b.requires.quotas, ap (λ (k : Accounts). k.quotas) (b.put_blank.ensures.holds b.args.form))
-
-pub entry_at-requires : goal.entry_at-requires
-entry_at-requires c = c.requires.quotas
-
-pub put_records-requires : goal.put_records-requires
-put_records-requires c =
-    let l = c in
-    let e = l in
-    let b = e in
-    let s = b in (
-      s.requires.records,
-      omega (arith, c.entry_at.ensures.1, s.requires.quotas),
-      λ (f : Form).
-          ap (λ (k : Accounts). k.holds) l.set_last_serial.ensures.holds ∙ ap (λ (k : Accounts). k.holds) (e.put_entries.ensures.holds)
-          ∙ ap (λ (k : Accounts). k.holds) (b.put_blank.ensures.holds f),
-    )
 
 pub returns : goal.returns
 unfolding tail_width

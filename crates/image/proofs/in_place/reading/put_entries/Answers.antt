@@ -1,5 +1,5 @@
 use native.Mathlib.Omega.{arith}
-use mathlib.Core.Path.{◌≡◌, refl, ap, ◌∙◌}
+use mathlib.Core.Path.{refl, ap, ◌∙◌}
 use Prim.Native.Nat.{ℕ}
 use mathlib.Core.List.{List}
 use lib.ListN.{take, drop}
@@ -23,9 +23,6 @@ loop-i-init c =
     let s = c in
     (ap (λ (qs : List Quota). with_quotas qs (accounts_of s.args.words.now)) s.requires.1, padded_same s.args.words.now)
 
-pub read_entry-quota-requires : goal.read_entry-quota-requires
-read_entry-quota-requires c = omega (arith, c.entry_at.ensures.1)
-
 pub loop-i-preserved : goal.loop-i-preserved
 unfolding blank opened
 loop-i-preserved c =
@@ -44,13 +41,3 @@ loop-i-preserved c =
           ∙ ap (λ (y : List ℕ). entry_of f (take (entry_width f) y)) (entry_place f t l.i p.entry_at.result p.entry_at.ensures.0))),
       padded_on l.invariant.1 c.put_quota.ensures.pads,
     )
-
-pub returns : goal.returns
-returns c =
-    let l = c.loop-i in
-    let a = c.args in
-    let e : l.i ≡ a.form.quotas = omega arith in
-    record {
-      holds = l.invariant.0 ∙ ap (λ (n : ℕ). with_quotas (Read a.form n a.image.now) (accounts_of a.words.now)) e;
-      pads = l.invariant.1;
-    }

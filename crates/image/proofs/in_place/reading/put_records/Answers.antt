@@ -1,5 +1,5 @@
 use native.Mathlib.Omega.{arith}
-use mathlib.Core.Path.{◌≡◌, refl, ap, sym, ◌∙◌}
+use mathlib.Core.Path.{refl, ap, sym, ◌∙◌}
 use Prim.Native.Nat.{ℕ, ◌*◌}
 use mathlib.Core.List.{List}
 use lib.ListN.{take, drop}
@@ -38,13 +38,3 @@ loop-i-preserved c =
           (r.read_record-hold.ensures ∙ ap (λ (y : List ℕ). record_of (take 8 y)) (sym (drop-drop (l.i * 8) a.at t)))),
       padded_on l.invariant.1 c.put_hold.ensures.pads,
     )
-
-pub returns : goal.returns
-returns c =
-    let l = c.loop-i in
-    let a = c.args in
-    let e : l.i ≡ a.count = omega arith in
-    record {
-      holds = λ (f : Form). l.invariant.0 f ∙ ap (λ (n : ℕ). with_holds (Read f a.at n a.image.now) (accounts_of a.words.now)) e;
-      pads = l.invariant.1;
-    }

@@ -22,9 +22,6 @@ sized c =
     let h = c in
     sym (length-take-le h.heap_at-end.result c.head_space-head.result (omega (arith, n, h.heap_at-end.ensures.1)))
 
-pub slice_bounds-put_with-end : goal.slice_bounds-put_with-end
-slice_bounds-put_with-end c = sized c
-
 pub put_with-requires : goal.put_with-requires
 put_with-requires c =
     let h = c in
