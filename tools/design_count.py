@@ -1,7 +1,7 @@
 #!/usr/bin/env python3
 """Counts the places of each point of docs/DESIGN-PASS.md in crates/*/src.
 
-usage: tools/design_count.py [COMMIT] [--list [POINT]]    of COMMIT, or of the files as they lie; --list prints each place
+usage: tools/design_count.py [COMMIT] [--list [POINT]]    of COMMIT, or of the files as they lie; --list names each
 
 A place is a declaration, a loop or a parameter that a pattern below finds; comments do not count. Twins are named by
 hand (PAIRS, BY_VALUE): a pair counts while both of its sides stand and neither calls the other, or what is named
@@ -12,7 +12,10 @@ import re
 import subprocess
 import sys
 
-FN = re.compile(r"^ *(?:pub(?:\(crate\))? )?(?:extern \"C\" )?fn (\w+)", re.M)
+# What a function requires, without the word and its braces.
+REQUIRES = re.compile(r"requires \{(.*?)\}\s*(?=requires|ensures|\{)", re.S)
+# A function's name and its parameters.
+FUNCTION = re.compile(r"\bfn (\w+)[^{]*?\(([^{]*?)\)(?: ->|\s*\n| \{)", re.M | re.S)
 
 
 def files(commit):
@@ -37,6 +40,13 @@ def found(path, text, pattern, name=None):
     for it in re.finditer(pattern, text, re.M | re.S):
         line = text[: it.start()].count("\n") + 1
         yield f"{path}:{line} {name or it[1]}"
+
+
+def parameters(path, text, pattern):
+    """A place for each parameter of a function that a pattern finds by its name and type."""
+    for it in FUNCTION.finditer(text):
+        for name in re.findall(pattern, it[2]):
+            yield f"{path}:{text[: it.start()].count(chr(10)) + 1} {it[1]}({name})"
 
 
 def crate(path):
@@ -66,9 +76,7 @@ def codes(path, text):
     """Numbers that stand for a kind, an edition or a refusal, in functions that C does not call."""
     if crate(path) in ("exports", "exports_c", "tried"):
         return
-    for it in re.finditer(r"\bfn (\w+)[^{]*?\(([^{]*?)\)(?: ->|\s*\n| \{)", text, re.M | re.S):
-        for name in re.findall(r"\b(kind|edition|refusal): (?:&mut )?u(?:8|32)", it[2]):
-            yield f"{path}:{text[: it.start()].count(chr(10)) + 1} {it[1]}({name})"
+    yield from parameters(path, text, r"\b(kind|edition|refusal): (?:&mut )?u(?:8|32)")
 
 
 def loops(path, text):
@@ -87,9 +95,7 @@ def steps(path, text):
     """Parameters of type bool that choose which of two things a function does."""
     if crate(path) in ("exports_c", "tried"):
         return
-    for it in re.finditer(r"\bfn (\w+)[^{]*?\(([^{]*?)\)(?: ->|\s*\n| \{)", text, re.M | re.S):
-        for name in re.findall(r"\b(\w+): bool", it[2]):
-            yield f"{path}:{text[: it.start()].count(chr(10)) + 1} {it[1]}({name})"
+    yield from parameters(path, text, r"\b(\w+): bool")
 
 
 def lengths(path, text):
@@ -101,7 +107,7 @@ def lengths(path, text):
 
 def travelling(path, text):
     """Functions that take two or more of the survey's tables, and those of an image that take form parts."""
-    for it in re.finditer(r"\bfn (\w+)[^{]*?\(([^{]*?)\)(?: ->|\s*\n| \{)", text, re.M | re.S):
+    for it in FUNCTION.finditer(text):
         tables = re.findall(r"\b(words|links|heads|owed|left): &", it[2])
         if crate(path) == "survey" and len(tables) > 2:
             yield f"{path}:{text[: it.start()].count(chr(10)) + 1} {it[1]}({', '.join(tables)})"
@@ -116,7 +122,8 @@ def facts(texts):
     for home in sorted({crate(it) for it in texts}):
         asked = {}
         for path, text in texts.items():
-            for clause in re.findall(r"requires \{(.*?)\}\s*(?=requires|ensures|\{)", text if crate(path) == home else "", re.S):
+            clauses = REQUIRES.findall(text) if crate(path) == home else []
+            for clause in clauses:
                 for fact in {squeezed(it) for it in clause.split(" × ")}:
                     asked[fact] = asked.get(fact, 0) + 1
         yield from (f"{home} {fact}, by {number} functions" for fact, number in sorted(asked.items()) if number > 2)
@@ -141,15 +148,17 @@ BY_VALUE = {
 PAIRS = {
     "rounding": "first_unit/second_unit FIRST_POWERS/SECOND_POWERS",
     "layout": "read_u16/read_u32=read read_pair/read_quad write_u16/write_u32=write write_pair/write_quad",
-    "accounts": "charged/refunded charge/refund=change_quota charge/words:charge refund/words:refund remaining/words:remaining "
-    "spent/words:spent hold_at/words:hold_at put_hold/words:put_hold drop_hold/words:drop_hold "
+    "accounts": "charged/refunded charge/refund=change_quota charge/words:charge refund/words:refund "
+    "remaining/words:remaining spent/words:spent hold_at/words:hold_at put_hold/words:put_hold drop_hold/words:drop_hold "
     "drop_holds/words:drop_holds left_permissions/words:left_permissions "
     "clear_permissions/words:clear_permissions with_last_serial/words:set_last_serial open/words:open",
     "words": "charge/refund=change_remainder put_quotas/put_holds quotas_of/holds_of",
-    "survey": "grant_in/statistics:grant_in is_live/holding:counted walk/walk_frames used_end/one_down failed/lost survey/check_in_frames=begin",
+    "survey": "grant_in/statistics:grant_in is_live/holding:counted walk/walk_frames used_end/one_down "
+    "failed/lost survey/check_in_frames=begin",
     "writer": "make_free/make_unquarantined=join_neighbours",
     "image": "read_pair/read_quad form_1/form_2 read_entries/read_records write_entries/write_records",
-    "comparison": "find_unlike/find_like is_same_quota/is_same_record find_quota/find_record from_quota/from_record with_second/pair_of",
+    "comparison": "find_unlike/find_like is_same_quota/is_same_record find_quota/find_record "
+    "from_quota/from_record with_second/pair_of",
     "report": "put_part/settings:put_value",
     "settings": "last_version/nth_entry last_in/nth_in last_in/find_in",
     "statistics": "no_statistics/no_quota_statistics",
@@ -199,7 +208,8 @@ def wraps(texts, home, both):
     for path, text in texts.items():
         if crate(path) == home:
             for body in re.findall(rf"^pub fn {both[0]}\b.*?^}}", text, re.M | re.S):
-                if "words::words_of(accounts)" in body or "places::words_of(queue)" in body or f"crate::{both[0]}(heap, &mut words" in body:
+                made = ("words::words_of(accounts)", "places::words_of(queue)", f"crate::{both[0]}(heap, &mut words")
+                if any(it in body for it in made):
                     return True
     return False
 
