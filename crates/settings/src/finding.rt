@@ -1,20 +1,20 @@
 // The value of a name at a version: where it lies, and the bytes themselves.
-ghost use Rattle.std.specs.Prelude.{◌≡◌, Ok};
+ghost use Rattle.std.specs.Prelude.{◌≡◌, Ok, None};
 ghost use Rattle.settings.specs.Entries.{entries};
 ghost use Rattle.settings.specs.Find.{later, found_in, chosen, find, located, refusal_of, bytes_of, lies_at};
 
 use crate::entries::{used_bytes, walk};
 use crate::{Entry, Place, SettingsRefusal, Span};
 
-// Where the entry's value lies if it answers, else what was found before.
-fn later(before: Option<Span>, entry: Entry, name: u8, version: u16) -> Option<Span>
-    ensures { result ≡ later name version before entry }
+// Where the entry's value lies, if it answers.
+fn answered(entry: Entry, name: u8, version: u16) -> Option<Span>
+    ensures { result ≡ later name version None entry }
 {
     if entry.name != name {
-        return before;
+        return None;
     }
     if version < entry.version {
-        return before;
+        return None;
     }
     Some(Span {
         start: entry.start,
@@ -26,11 +26,7 @@ fn later(before: Option<Span>, entry: Entry, name: u8, version: u16) -> Option<S
 fn find_in(store: &[u8], name: u8, version: u16) -> Result<Option<Span>, SettingsRefusal>
     ensures { result ≡ found_in name version (entries store.now) }
 {
-    walk(
-        store,
-        None,
-        |found, entry| later(found, entry, name, version),
-    )
+    walk(store, |_, entry| answered(entry, name, version))
 }
 
 // The board's value, else the default.

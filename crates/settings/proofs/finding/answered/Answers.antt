@@ -2,7 +2,7 @@
 use native.Mathlib.Omega.{arith}
 use borrow.Author.Tests.{eq-eqb, ne_eqb, le-leb, lt-leb}
 use Rattle.settings.specs.Find.{later, answers}
-use Rattle.settings.proofs.finding.later.Goals as goal
+use Rattle.settings.proofs.finding.answered.Goals as goal
 
 pub returns-then-entry-name : goal.returns-then-entry-name
 unfolding later answers
