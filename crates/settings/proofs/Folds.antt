@@ -3,17 +3,18 @@ use Prim.Native.Nat.{ℕ, zero, suc, ◌+◌, ◌<◌}
 use native.Mathlib.Omega.{arith}
 use mathlib.Core.Path.{◌≡◌, refl, ap, sym, ◌∙◌}
 use mathlib.Core.List.{List, [], ◌∷◌, ◌++◌}
+use mathlib.Core.Bool.{Bool, true, false, cond}
 use lib.ListN.{length}
 use borrow.Author.Tests.{eq-eqb, ne_eqb}
 use Rattle.std.specs.Prelude.{Result, Ok, Err, Some, None, Option, slice_get}
-use Rattle.std.specs.Option.{option_or, unwrap_or}
+use Rattle.std.specs.Option.{option_or, option_map, unwrap_or, MatchOption, IsSomeAnd}
 use Rattle.settings.specs.declared.Span.{Span}
 use Rattle.settings.specs.declared.Entry.{Entry}
 use Rattle.settings.specs.declared.SettingsRefusal.{SettingsRefusal}
 use Rattle.settings.specs.declared.SettingsRefusal.TheVariants.{Malformed}
 use Rattle.settings.specs.Entries.{stored, newest, last_of, entry_told, nth_of}
-use Rattle.settings.specs.Find.{later, or_else, value_in, found_in, chosen, find}
-use Rattle.settings.specs.Walks.{last_given, walked, picked}
+use Rattle.settings.specs.Find.{answers, value_of, later, or_else, value_in, found_in, chosen, find}
+use Rattle.settings.specs.Walks.{last_given, walked, picked, answered}
 use Rattle.settings.proofs.Rows
 
 pub or_none : {T : Type 0} (f : Option T) → option_or f None ≡ f
@@ -72,23 +73,51 @@ module _ (o : Option (List Entry)) where
           let is : last_given (λ k e. Some e.version) 0 es ≡ v = cc in
           ap Ok (sym (ap (λ f. unwrap_or f 0) is) ∙ newest_given 0 0 es)
 
-pub value_given : (name version n : ℕ) (es : List Entry)
-    → last_given (λ k e. later name version None e) n es ≡ value_in name version es
-unfolding value_in or_else
+value_given : (name version n : ℕ) (es : List Entry)
+    → option_map value_of (last_given (λ k e. answered name version e) n es) ≡ value_in name version es
+unfolding value_in or_else later
 value_given name version n [] = refl
 value_given name version n (e ∷ es) =
-    ap (λ f. option_or f (later name version None e)) (value_given name version (suc n) es)
-    ∙ same (value_in name version es)
+    over (last_given (λ k x. answered name version x) (suc n) es) (answers name version e)
+    ∙ ap (λ f. or_else f (cond (answers name version e) (Some (value_of e)) None)) (value_given name version (suc n) es)
   where
-    same : (f : Option Span) → option_or f (later name version None e) ≡ or_else f (later name version None e)
-    same (Some x) = refl
-    same None = refl
+    over : (f : Option Entry) (b : Bool) → option_map value_of (option_or f (cond b (Some e) None))
+        ≡ or_else (option_map value_of f) (cond b (Some (value_of e)) None)
+    over (Some x) b = refl
+    over None true = refl
+    over None false = refl
 
-pub found_walked : (name version : ℕ) (o : Option (List Entry))
-    → walked (λ k e. later name version None e) o ≡ found_in name version o
-unfolding found_in
-found_walked name version None = refl
-found_walked name version (Some es) = ap Ok (value_given name version 0 es)
+-- an entry that was found, as where its value lies
+pub valued : (v : Option Entry) (m : Option Span) (P : Entry → Span → Type 0)
+    → ((x : Entry) (y : Span) → P x y → y ≡ value_of x)
+    → MatchOption v (m ≡ None) (λ x. IsSomeAnd m (P x)) → m ≡ option_map value_of v
+valued None m P p w = w
+valued (Some x) None P p w = absurd w
+valued (Some x) (Some y) P p w = ap Some (p x y w)
+
+-- what a name has at a version, as the answer
+module _ (name version : ℕ) (o : Option (List Entry)) where
+  pub found_refused : (r : SettingsRefusal) → walked (λ k e. answered name version e) o ≡ Err r
+      → Err r ≡ found_in name version o
+  unfolding found_in
+  found_refused r = go o
+    where
+      go : (p : Option (List Entry)) → walked (λ k e. answered name version e) p ≡ Err r
+          → Err r ≡ found_in name version p
+      go None h = let is : Malformed ≡ r = cc in ap Err (sym is)
+      go (Some es) h = let z : ◌≡◌ {A = ℕ} 0 1 = cc in absurd (omega arith)
+
+  pub found_told : (v : Option Entry) → walked (λ k e. answered name version e) o ≡ Ok v
+      → Ok (option_map value_of v) ≡ found_in name version o
+  unfolding found_in
+  found_told v = go o
+    where
+      go : (p : Option (List Entry)) → walked (λ k e. answered name version e) p ≡ Ok v
+          → Ok (option_map value_of v) ≡ found_in name version p
+      go None h = let z : ◌≡◌ {A = ℕ} 0 1 = cc in absurd (omega arith)
+      go (Some es) h =
+          let is : last_given (λ k e. answered name version e) 0 es ≡ v = cc in
+          ap Ok (sym (ap (option_map value_of) is) ∙ value_given name version 0 es)
 
 -- behind the number that is asked for, and from it on
 pub past : (n k : ℕ) (es : List Entry) → n < k → last_given (picked n) k es ≡ None

@@ -4,6 +4,7 @@ use Rattle.std.specs.Option.{option_or}
 use Rattle.settings.specs.declared.Entry.{Entry}
 use Rattle.settings.specs.declared.SettingsRefusal.{SettingsRefusal}
 use Rattle.settings.specs.declared.SettingsRefusal.TheVariants.{Malformed}
+use Rattle.settings.specs.Find.{answers}
 
 -- each call that may be, says this of what it gets and gives, is one of the function g
 abbrev pub Acts : {T : Type 0} → (ℕ → Entry → Option T → Type 0) → (ℕ → Entry → Option T) → Type 0
@@ -22,3 +23,7 @@ walked g (Some es) = Ok (last_given g 0 es)
 -- the entry, where it has the number that is asked for
 abbrev pub picked : ℕ → ℕ → Entry → Option Entry
 picked n k e = cond (eqb k n) (Some e) None
+
+-- the entry, where it answers
+abbrev pub answered : ℕ → ℕ → Entry → Option Entry
+answered name version e = cond (answers name version e) (Some e) None
