@@ -52,6 +52,9 @@ fn contents_right(image: &[u8], form: Form, size: usize) -> bool
 }
 
 // The accounts that an image of a form says.
+// It stands by itself: a comparison reads both images' accounts at each step, and has 20 KB of code more with a copy of
+// this in each.
+#[inline(never)]
 pub(crate) fn read_accounts(image: &[u8], form: Form) -> Accounts
     requires { FormFits form }
     ensures { result ≡ accounts_of form (stream_of image.now) }

@@ -1,9 +1,9 @@
 // Entries read one after the other.
-ghost use Rattle.std.specs.Prelude.{◌≡◌, ◌+◌, ◌≤◌, ◌<◌, length, MatchResult, None};
+ghost use Rattle.std.specs.Prelude.{ℕ, Option, ◌≡◌, ◌+◌, ◌≤◌, ◌<◌, length, MatchResult, None};
 ghost use Rattle.settings.specs.declared.SettingsRefusal.TheVariants.{Malformed};
 ghost use Rattle.settings.specs.declared.Entry.{Entry as EntryOf};
 ghost use Rattle.settings.specs.Entries.{entry_at, read_entry, entries, stored, last_of, entry_told, nth_of};
-ghost use Rattle.settings.specs.Walks.{Acts, walked, passed};
+ghost use Rattle.settings.specs.Walks.{Acts, walked, picked};
 
 use crate::{ENTRY_FRONT, Entry, GREATEST_VALUE, SettingsRefusal};
 
@@ -43,24 +43,27 @@ fn read_entry(store: &[u8], at: usize, last: u16) -> Option<Entry>
     Some(entry)
 }
 
-// What `take` makes of these entries, one after the other, from what stands at the beginning. Each entry says where the
-// next one starts, so no index is counted here.
-pub(crate) fn walk<T: Copy, F: Fn(T, Entry) -> T>(
+// What `take` gives of the last of these entries of which it gives something. It gets each with its number, from 0.
+// Each entry says where the next one starts, so the loop is a walk.
+pub(crate) fn walk<T: Copy, F: Fn(usize, Entry) -> Option<T>>(
     store: &[u8],
-    begin: T,
     take: F,
-) -> Result<T, SettingsRefusal>
+) -> Result<Option<T>, SettingsRefusal>
     requires { F.IsAlwaysCallable take }
-    ensures { (h : T → EntryOf → T) → Acts (F.post take) h → result ≡ walked h begin (entries store.now) }
+    ensures { (g : ℕ → EntryOf → Option T) → Acts (F.post take) g → result ≡ walked g (entries store.now) }
 {
-    let mut told = begin;
+    let mut told: Option<T> = None;
+    let mut number: usize = 0;
     let mut last: u16 = 0;
     let mut at: usize = 0;
     while at < store.len() {
         let Some(entry) = read_entry(store, at, last) else {
             return Err(SettingsRefusal::Malformed);
         };
-        told = take(told, entry);
+        if let Some(given) = take(number, entry) {
+            told = Some(given);
+        }
+        number += 1;
         last = entry.version;
         at = entry.end;
     }
@@ -76,28 +79,30 @@ pub(crate) fn used_bytes(store: &[u8], used: usize) -> Result<&[u8], SettingsRef
     store.get(..used).ok_or(SettingsRefusal::Malformed)
 }
 
-// The version of the last of these entries, 0 where there is none: the walk with a closure of its own, as the n-th entry and
-// a name's value are found by it.
+// The version of the last of these entries, 0 where there is none: the walk with a closure of its own, as the n-th entry
+// and a name's value are found by it.
 pub(crate) fn last_version(store: &[u8]) -> Result<u16, SettingsRefusal>
     ensures { result ≡ last_of (entries store.now) }
 {
-    walk(store, 0, |_, entry| entry.version)
+    Ok(walk(store, |_, entry| Some(entry.version))?.unwrap_or(0))
 }
 
-// One entry passed on the way to another: how many stand in front of that one, or it itself once it is met.
-fn passed(way: Result<Entry, usize>, entry: Entry) -> Result<Entry, usize>
-    ensures { result ≡ passed way entry }
+// The entry, where it has the number that is asked for.
+fn picked(number: usize, entry: Entry, n: usize) -> Option<Entry>
+    ensures { result ≡ picked n number entry }
 {
-    match way {
-        Ok(met) => Ok(met),
-        Err(0) => Ok(entry),
-        Err(left) => Err(left - 1),
+    if number != n {
+        return None;
     }
+    Some(entry)
 }
 
 // The n-th entry, from 0, of a store; the whole store is read.
 pub fn nth_entry(store: &[u8], used: usize, n: usize) -> Result<Option<Entry>, SettingsRefusal>
     ensures { entry_told result ≡ nth_of n (stored store.now used) }
 {
-    walk(used_bytes(store, used)?, Err(n), passed).map(|way| way.ok())
+    walk(
+        used_bytes(store, used)?,
+        |number, entry| picked(number, entry, n),
+    )
 }

@@ -1,36 +1,41 @@
 // The value of a name at a version: where it lies, and the bytes themselves.
 ghost use Rattle.std.specs.Prelude.{◌≡◌, Ok};
 ghost use Rattle.settings.specs.Entries.{entries};
-ghost use Rattle.settings.specs.Find.{later, found_in, chosen, find, located, refusal_of, bytes_of, lies_at};
+ghost use Rattle.settings.specs.Walks.{answered};
+ghost use Rattle.settings.specs.Find.{value_of, found_in, chosen, find, located, refusal_of, bytes_of, lies_at};
 
 use crate::entries::{used_bytes, walk};
 use crate::{Entry, Place, SettingsRefusal, Span};
 
-// Where the entry's value lies if it answers, else what was found before.
-fn later(before: Option<Span>, entry: Entry, name: u8, version: u16) -> Option<Span>
-    ensures { result ≡ later name version before entry }
+// The entry, where it answers.
+fn answered(entry: Entry, name: u8, version: u16) -> Option<Entry>
+    ensures { result ≡ answered name version entry }
 {
     if entry.name != name {
-        return before;
+        return None;
     }
     if version < entry.version {
-        return before;
+        return None;
     }
-    Some(Span {
-        start: entry.start,
-        end: entry.end,
-    })
+    Some(entry)
 }
 
-// What these entries have for a name at a version.
+// Where the value of an entry lies.
+fn value_of(entry: Entry) -> Span
+    ensures { result ≡ value_of entry }
+{
+    Span {
+        start: entry.start,
+        end: entry.end,
+    }
+}
+
+// What these entries have for a name at a version: where the value of the last entry that answers lies.
 fn find_in(store: &[u8], name: u8, version: u16) -> Result<Option<Span>, SettingsRefusal>
     ensures { result ≡ found_in name version (entries store.now) }
 {
-    walk(
-        store,
-        None,
-        |found, entry| later(found, entry, name, version),
-    )
+    let found = walk(store, |_, entry| answered(entry, name, version))?;
+    Ok(found.map(value_of))
 }
 
 // The board's value, else the default.

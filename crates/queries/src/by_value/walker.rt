@@ -31,8 +31,8 @@ struct Given {
     at: usize,
 }
 
-// What a step of a walker at a place answers: the block that starts there, if one does.
-pub fn list_from(heap: &[u8], accounts: Accounts, at: usize) -> Result<Option<ListedBlock>, Refusal>
+// The block that starts at a place, if one does: the listing in place, on words of the accounts.
+fn block_from(heap: &[u8], accounts: Accounts, at: usize) -> Result<Option<ListedBlock>, Refusal>
     ensures { outcome heap.now accounts (block_values result) ≡ list_block (table accounts.edition) heap.now accounts at }
 {
     let words = words::words_of(accounts);
@@ -43,7 +43,7 @@ pub fn list_from(heap: &[u8], accounts: Accounts, at: usize) -> Result<Option<Li
 fn step_from(heap: &[u8], accounts: Accounts, at: usize) -> Given
     ensures { Stepped (table accounts.edition) heap.now accounts at result.answer result.at }
 {
-    let answer = list_from(heap, accounts, at);
+    let answer = block_from(heap, accounts, at);
     match answer {
         Ok(Some(block)) => Given {
             answer,
@@ -72,4 +72,11 @@ pub fn next<'a>(walker: Walker<'a>, accounts: Accounts) -> Step<'a>
         at: given.at,
         answer: given.answer,
     }
+}
+
+// What a step of a walker at a place answers: with plain parameters.
+pub fn list_from(heap: &[u8], accounts: Accounts, at: usize) -> Result<Option<ListedBlock>, Refusal>
+    ensures { outcome heap.now accounts (block_values result) ≡ list_block (table accounts.edition) heap.now accounts at }
+{
+    next(Walker { heap, at }, accounts).answer
 }

@@ -28,16 +28,16 @@ returns-then-remaining-charge-clause-holds c n d = exceeds c.requires d _ (omega
 
 pub returns-in_default-clause-holds : goal.returns-in_default-clause-holds
 returns-in_default-clause-holds c n d =
-    unrecorded c.requires d _ (omega (arith, c.if-remaining-charge.false, c.remaining.ensures)) c.in_default.is refl
+    unrecorded c.requires d _ (omega (arith, c.remaining.ensures)) c.in_default.is refl
 
 pub returns-then-last-ge-GREATEST_SERIAL-clause-holds : goal.returns-then-last-ge-GREATEST_SERIAL-clause-holds
 returns-then-last-ge-GREATEST_SERIAL-clause-holds c n d =
-    unnumbered c.requires d _ (omega (arith, c.if-remaining-charge.false, c.remaining.ensures)) c.in-Some.place c.in-Some.is
+    unnumbered c.requires d _ (omega (arith, c.remaining.ensures)) c.in-Some.place c.in-Some.is
     (omega (arith, c.if-last-ge-GREATEST_SERIAL.true, c.last_serial-last.ensures)) refl
 
 pub returns-in_default-fit-clause-holds : goal.returns-in_default-fit-clause-holds
 returns-in_default-fit-clause-holds c n d =
-    unplaced c.requires d _ (omega (arith, c.if-remaining-charge.false, c.remaining.ensures)) c.in-Some.place c.in-Some.is
+    unplaced c.requires d _ (omega (arith, c.remaining.ensures)) c.in-Some.place c.in-Some.is
     (omega (arith, c.if-last-ge-GREATEST_SERIAL.false, c.last_serial-last.ensures)) c.in_default-fit.is refl
 
 pub given-requires : goal.given-requires
@@ -56,7 +56,7 @@ returns-clause-holds c n d =
     let answer = c.given.ensures ∙ (λ j. Ok (record { base = b.base; length = a.wanted.need; serial = serial j })) in
     let done : handle_result c.book.new.words c.given.result ≡ result_of a.wanted.quota a.wanted.need at b.base k =
     (λ j. record { accounts = booked j; answer = answer j }) in
-    made c.requires d _ (omega (arith, c.if-remaining-charge.false, c.remaining.ensures)) at c.in-Some.is
+    made c.requires d _ (omega (arith, c.remaining.ensures)) at c.in-Some.is
     (omega (arith, c.if-last-ge-GREATEST_SERIAL.false, c.last_serial-last.ensures)) (octets (goal.at.returns-clause-holds c).After-slice_known-1)
     b.block b.base b.is c.carve.new.heap
     (c.carve.ensures ∙ ap (λ (t : ℕ). carve_in b.block b.base a.wanted.need t a.heap.now) serial) done

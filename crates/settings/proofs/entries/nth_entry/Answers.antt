@@ -1,8 +1,8 @@
--- The walk ends with the entry, or with what is still in front of it (`Folds`).
+-- The walk gives the entry that has the number (`Folds`).
 use Rattle.std.proofs.Common.{rules, ◌≡◌, ap, sym, ◌∙◌}
 use Rattle.std.specs.Prelude.{Err}
 use Rattle.settings.specs.Entries.{entry_told, nth_of}
-use Rattle.settings.specs.Walks.{passed}
+use Rattle.settings.specs.Walks.{picked}
 use Rattle.settings.proofs.Folds.{nth_told}
 use Rattle.settings.proofs.entries.nth_entry.Goals as goal
 
@@ -16,5 +16,5 @@ returns-in_err-used_bytes c =
 pub returns : goal.returns
 returns c =
     let n = c.args.n in
-    let w = c.walk.ensures passed (λ a e b p. search rules) in
-    nth_told n _ c.map.result _ (λ x y p. search rules) (rw w at c.map.ensures.cases) ∙ ap (nth_of n) (sym c.in_ok-used_bytes.ensures)
+    let w = c.walk.ensures (picked n) (λ k e b p. search rules) in
+    ap entry_told w ∙ nth_told n _ ∙ ap (nth_of n) (sym c.in_ok-used_bytes.ensures)

@@ -1,23 +1,33 @@
 -- The walk begins with no entries, takes one more in each turn, and ends with all or at one that does not fit.
 use native.Mathlib.Omega.{arith}
-use mathlib.Core.Path.{refl, ap, sym, ◌∙◌}
+use mathlib.Core.Path.{◌≡◌, refl, ap, sym, ◌∙◌}
 use mathlib.Core.List.{[], ◌∷◌, ◌++◌}
 use Rattle.std.specs.Prelude.{Ok}
-use Rattle.std.proofs.lemmas.List.Sums.{fold-append}
-use Rattle.settings.specs.Walks.{walked}
+use Rattle.std.specs.Option.{option_or}
+use Rattle.std.proofs.lemmas.List.{length-append}
+use Rattle.settings.specs.Walks.{last_given, walked}
 use Rattle.settings.proofs.Reading.{known, unread}
+use Rattle.settings.proofs.Folds.{given_next}
 use Rattle.settings.proofs.Walks.{walk_begin, walk_end, walk_bad, walk_more}
 use Rattle.settings.proofs.entries.walk.Goals as goal
+use Rattle.settings.proofs.entries.walk.Goals.{in-Some-take, in_default-take}
 
 pub loop-at-init : goal.loop-at-init
-loop-at-init g c = ([], (walk_begin c.args.store.now, λ h a. refl))
+loop-at-init g c = ([], (walk_begin c.args.store.now, (refl, (omega arith, λ h a. refl))))
 
 pub returns-in_default : goal.returns-in_default
 returns-in_default g c h a =
     let s = c.args.store.now in
     let l = c.loop-at in
     let bad = unread l.last l.at s (sym c.in_default.is ∙ c.read_entry.ensures) in
-    sym (ap (walked h c.args.begin) (walk_bad s l.invariant.0 l.last l.at l.invariant.1.0 (omega arith) bad))
+    sym (ap (walked h) (walk_bad s l.invariant.0 l.last l.at l.invariant.1.0 (omega arith) bad))
+
+pub returns : goal.returns
+returns g c h a =
+    let s = c.args.store.now in
+    let l = c.loop-at in
+    let i = l.invariant in
+    ap Ok (i.1.1.1.1 h a) ∙ sym (ap (walked h) (walk_end s i.0 l.last l.at i.1.0 (omega arith)))
 
 pub loop-at-smaller : goal.loop-at-smaller
 loop-at-smaller g c =
@@ -33,17 +43,26 @@ loop-at-preserved g c =
     let l = c.loop-at in
     let e = c.in-Some.entry in
     let r = l.invariant.0 in
-    let k = known l.last l.at s e (sym c.in-Some.is ∙ c.read_entry.ensures) in (
+    let i = l.invariant.1 in
+    let k = known l.last l.at s e (sym c.in-Some.is ∙ c.read_entry.ensures) in
+    let m = k.moves in
+    let n = length-append r (e ∷ []) in
+    let told : c.match-take.told ≡ option_or c.take.result l.told = elim c.match-take.branch [
+      | in-Some-take w ↦ w.told-is ∙ sym (ap (λ f. option_or f l.told) w.in-Some-take.is)
+      | in_default-take w ↦ w.told-is ∙ sym (ap (λ f. option_or f l.told) w.in_default-take.is)
+    ] in (
       r ++ (e ∷ []),
       (
-        walk_more s r l.last l.at l.invariant.1.0 (omega arith) e k,
-        λ h a. a _ e _ c.take-told.ensures ∙ ap (λ x. h x e) (l.invariant.1.1 h a) ∙ sym (fold-append h c.args.begin r (e ∷ [])),
+        walk_more s r l.last l.at i.0 (omega arith) e k,
+        (
+          omega (arith, i.1.0, n),
+          (
+            omega (arith, i.1.1.0, m),
+            λ h a. told
+                ∙ (λ j. option_or (a _ e _ c.take.ensures j) (i.1.1.1 h a j))
+                ∙ ap (λ x. option_or (h x e) (last_given h 0 r)) i.1.0
+                ∙ sym (given_next h r e),
+          ),
+        ),
       ),
     )
-
-pub returns : goal.returns
-returns g c h a =
-    let s = c.args.store.now in
-    let l = c.loop-at in
-    let i = l.invariant in
-    ap Ok (i.1.1 h a) ∙ sym (ap (walked h c.args.begin) (walk_end s i.0 l.last l.at i.1.0 (omega arith)))

@@ -14,7 +14,7 @@ use Rattle.queries.proofs.by_value.walker.step_from.Goals as goal
 use Rattle.queries.proofs.by_value.walker.step_from.Goals.{In-Ok-Some}
 
 -- the answer that lists a block
-listed : (c : In-Ok-Some) → c.list_from-answer.result ≡ Ok (Some c.in-Ok-Some.block)
+listed : (c : In-Ok-Some) → c.block_from-answer.result ≡ Ok (Some c.in-Ok-Some.block)
 listed c = let f = rw c.in-Ok-Some.is at c.in-Ok-Some.field-0-is in c.in-Ok-Some.is ∙ ap Ok f
 
 -- the block ends in the heap, and the place behind it is the next
@@ -24,7 +24,7 @@ given : (c : In-Ok-Some)
     (b.offset + b.size ≤ length a.heap.now) × Stepped (table a.accounts.edition) a.heap.now a.accounts a.at (Ok (Some b)) (b.offset + b.size)
 given c =
     let a = c.args in
-    let g = c.list_from-answer in
+    let g = c.block_from-answer in
     after_some (table a.accounts.edition) a.heap.now a.accounts a.at g.result g.ensures c.in-Ok-Some.block (listed c)
 
 pub overflow_add-result : goal.overflow_add-result
@@ -41,7 +41,7 @@ pub returns-in-Ok-None : goal.returns-in-Ok-None
 unfolding block_values
 returns-in-Ok-None c =
     let a = c.args in
-    let g = c.list_from-answer in
+    let g = c.block_from-answer in
     let f = rw c.in-Ok-None.is at c.in-Ok-None.field-0-is in
     after_none (table a.accounts.edition) a.heap.now a.accounts a.at g.result g.ensures
     (ap (λ (r : Result (Option ListedBlock) Refusal). (block_values r).block) (c.in-Ok-None.is ∙ ap Ok f))
@@ -50,6 +50,6 @@ pub returns-in-Err : goal.returns-in-Err
 unfolding block_values
 returns-in-Err c =
     let a = c.args in
-    let g = c.list_from-answer in
+    let g = c.block_from-answer in
     after_none (table a.accounts.edition) a.heap.now a.accounts a.at g.result g.ensures
     (ap (λ (r : Result (Option ListedBlock) Refusal). (block_values r).block) c.in-Err.is)
