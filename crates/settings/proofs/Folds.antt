@@ -6,7 +6,7 @@ use mathlib.Core.List.{List, [], ◌∷◌, ◌++◌}
 use mathlib.Core.Bool.{Bool, true, false, cond}
 use lib.ListN.{length}
 use borrow.Author.Tests.{eq-eqb, ne_eqb}
-use Rattle.std.specs.Prelude.{Result, Ok, Err, Some, None, Option, slice_get}
+use Rattle.std.specs.Prelude.{Result, Ok, Err, Some, None, Option, fold, slice_get}
 use Rattle.std.specs.Option.{option_or, option_map, unwrap_or, MatchOption, IsSomeAnd}
 use Rattle.settings.specs.declared.Span.{Span}
 use Rattle.settings.specs.declared.Entry.{Entry}
@@ -14,7 +14,7 @@ use Rattle.settings.specs.declared.SettingsRefusal.{SettingsRefusal}
 use Rattle.settings.specs.declared.SettingsRefusal.TheVariants.{Malformed}
 use Rattle.settings.specs.Entries.{stored, newest, last_of, entry_told, nth_of}
 use Rattle.settings.specs.Find.{answers, value_of, later, or_else, value_in, found_in, chosen, find}
-use Rattle.settings.specs.Walks.{last_given, walked, picked, answered}
+use Rattle.settings.specs.Walks.{walked, last_given, given_in, turn, told_at_end, picked, answered}
 use Rattle.settings.proofs.Rows
 
 pub or_none : {T : Type 0} (f : Option T) → option_or f None ≡ f
@@ -43,6 +43,28 @@ given_next g es e =
     let z : 0 + length es ≡ length es = omega arith in
     given_more g 0 es e ∙ ap (λ (k : ℕ). option_or (g k e) (last_given g 0 es)) z
 
+-- what a walk gives is what its turns have told in the end
+turns_given : {T : Type 0} (g : ℕ → Entry → Option T) (n : ℕ) (f : Option T) (es : List Entry)
+    → (fold (turn g) (n, f) es).1 ≡ option_or (last_given g n es) f
+turns_given g n f [] = refl
+turns_given g n f (e ∷ es) = turns_given g (suc n) (option_or (g n e) f) es ∙ or_again (last_given g (suc n) es) (g n e) f
+
+pub given_turns : {T : Type 0} (g : ℕ → Entry → Option T) (o : Option (List Entry))
+    → given_in g o ≡ told_at_end (walked (turn g) (0, None) o)
+given_turns g None = refl
+given_turns g (Some es) = ap Ok (sym (turns_given g 0 None es ∙ or_none (last_given g 0 es)))
+
+pub newest_fold : (last : ℕ) (es : List Entry) → fold (λ v e. e.version) last es ≡ newest last es
+unfolding newest
+newest_fold last [] = refl
+newest_fold last (e ∷ es) = newest_fold e.version es
+
+-- the last version, by the versions alone
+pub last_walked : (o : Option (List Entry)) → walked (λ v e. e.version) 0 o ≡ last_of o
+unfolding last_of
+last_walked None = refl
+last_walked (Some es) = ap Ok (newest_fold 0 es)
+
 newest_given : (v n : ℕ) (es : List Entry) → unwrap_or (last_given (λ k e. Some e.version) n es) v ≡ newest v es
 unfolding newest
 newest_given v n [] = refl
@@ -55,23 +77,52 @@ newest_given v n (e ∷ es) =
 
 -- the version of the last entry, as the answer
 module _ (o : Option (List Entry)) where
-  pub last_refused : (r : SettingsRefusal) → walked (λ k e. Some e.version) o ≡ Err r → Err r ≡ last_of o
+  pub last_refused : (r : SettingsRefusal) → given_in (λ k e. Some e.version) o ≡ Err r → Err r ≡ last_of o
   unfolding last_of
   last_refused r = go o
     where
-      go : (p : Option (List Entry)) → walked (λ k e. Some e.version) p ≡ Err r → Err r ≡ last_of p
+      go : (p : Option (List Entry)) → given_in (λ k e. Some e.version) p ≡ Err r → Err r ≡ last_of p
       go None h = let is : Malformed ≡ r = cc in ap Err (sym is)
       go (Some es) h = let z : ◌≡◌ {A = ℕ} 0 1 = cc in absurd (omega arith)
 
-  pub last_told : (v : Option ℕ) → walked (λ k e. Some e.version) o ≡ Ok v → Ok (unwrap_or v 0) ≡ last_of o
+  pub last_told : (v : Option ℕ) → given_in (λ k e. Some e.version) o ≡ Ok v → Ok (unwrap_or v 0) ≡ last_of o
   unfolding last_of
   last_told v = go o
     where
-      go : (p : Option (List Entry)) → walked (λ k e. Some e.version) p ≡ Ok v → Ok (unwrap_or v 0) ≡ last_of p
+      go : (p : Option (List Entry)) → given_in (λ k e. Some e.version) p ≡ Ok v → Ok (unwrap_or v 0) ≡ last_of p
       go None h = let z : ◌≡◌ {A = ℕ} 0 1 = cc in absurd (omega arith)
       go (Some es) h =
           let is : last_given (λ k e. Some e.version) 0 es ≡ v = cc in
           ap Ok (sym (ap (λ f. unwrap_or f 0) is) ∙ newest_given 0 0 es)
+
+exchange : (name version : ℕ) (f g : Option Span) (e : Entry)
+    → or_else g (later name version f e) ≡ or_else (or_else g (later name version None e)) f
+unfolding or_else later
+exchange name version f (Some x) e = refl
+exchange name version f None e = go (answers name version e)
+  where
+    go : (b : Bool) → cond b (Some (value_of e)) f ≡ or_else (cond b (Some (value_of e)) None) f
+    go true = refl
+    go false = refl
+
+-- entries on top of what was found before them
+pub value_fold : (name version : ℕ) (f : Option Span) (es : List Entry)
+    → fold (later name version) f es ≡ or_else (value_in name version es) f
+unfolding value_in or_else
+value_fold name version f [] = refl
+value_fold name version f (e ∷ es) =
+    value_fold name version (later name version f e) es ∙ exchange name version f (value_in name version es) e
+
+or_nothing : (f : Option Span) → or_else f None ≡ f
+unfolding or_else
+or_nothing (Some x) = refl
+or_nothing None = refl
+
+pub found_walked : (name version : ℕ) (o : Option (List Entry))
+    → walked (later name version) None o ≡ found_in name version o
+unfolding found_in
+found_walked name version None = refl
+found_walked name version (Some es) = ap Ok (value_fold name version None es ∙ or_nothing (value_in name version es))
 
 value_given : (name version n : ℕ) (es : List Entry)
     → option_map value_of (last_given (λ k e. answered name version e) n es) ≡ value_in name version es
@@ -97,22 +148,22 @@ valued (Some x) (Some y) P p w = ap Some (p x y w)
 
 -- what a name has at a version, as the answer
 module _ (name version : ℕ) (o : Option (List Entry)) where
-  pub found_refused : (r : SettingsRefusal) → walked (λ k e. answered name version e) o ≡ Err r
+  pub found_refused : (r : SettingsRefusal) → given_in (λ k e. answered name version e) o ≡ Err r
       → Err r ≡ found_in name version o
   unfolding found_in
   found_refused r = go o
     where
-      go : (p : Option (List Entry)) → walked (λ k e. answered name version e) p ≡ Err r
+      go : (p : Option (List Entry)) → given_in (λ k e. answered name version e) p ≡ Err r
           → Err r ≡ found_in name version p
       go None h = let is : Malformed ≡ r = cc in ap Err (sym is)
       go (Some es) h = let z : ◌≡◌ {A = ℕ} 0 1 = cc in absurd (omega arith)
 
-  pub found_told : (v : Option Entry) → walked (λ k e. answered name version e) o ≡ Ok v
+  pub found_told : (v : Option Entry) → given_in (λ k e. answered name version e) o ≡ Ok v
       → Ok (option_map value_of v) ≡ found_in name version o
   unfolding found_in
   found_told v = go o
     where
-      go : (p : Option (List Entry)) → walked (λ k e. answered name version e) p ≡ Ok v
+      go : (p : Option (List Entry)) → given_in (λ k e. answered name version e) p ≡ Ok v
           → Ok (option_map value_of v) ≡ found_in name version p
       go None h = let z : ◌≡◌ {A = ℕ} 0 1 = cc in absurd (omega arith)
       go (Some es) h =
@@ -131,7 +182,7 @@ nth_given n k (suc m) (e ∷ es) h =
     rw (nth_given n (suc k) m es (omega (arith, h)), ne_eqb k n (λ (q : k ≡ n). omega (arith, q, h))) (or_none (slice_get es m))
 
 -- the n-th entry, as the answer
-pub nth_told : (n : ℕ) (o : Option (List Entry)) → entry_told (walked (picked n) o) ≡ nth_of n o
+pub nth_told : (n : ℕ) (o : Option (List Entry)) → entry_told (given_in (picked n) o) ≡ nth_of n o
 unfolding nth_of entry_told
 nth_told n None = refl
 nth_told n (Some es) = told (last_given (picked n) 0 es) (nth_given n 0 n es (omega arith))

@@ -1,7 +1,9 @@
 -- The definitions computed: stores of no, one and several entries, every way to be malformed, which entry answers, and adding around each refusal.
 use mathlib.Core.Path.{◌≡◌, refl}
 use mathlib.Core.List.{List, [], ◌∷◌, ◌++◌, map}
+use mathlib.Core.Bool.{cond}
 use Prim.Native.Nat.{ℕ}
+use lib.Dec.{eqb}
 use lib.ListN.{take, replicate}
 use Rattle.std.specs.Prelude.{Result, Ok, Err, Some, None, Option}
 use Rattle.settings.specs.declared.Span.{Span}
@@ -13,6 +15,7 @@ use Rattle.settings.specs.Refusals.{settings_refusal_number}
 use Rattle.settings.specs.Entries.{stored, EntryTold, entry_told, nth_of}
 use Rattle.settings.specs.Find.{find, located, refusal_of, bytes_of}
 use Rattle.settings.specs.Add.{Stored, entry_bytes, add_of, added_to}
+use Rattle.settings.specs.Walks.{walked, given_in, turn, told_at_end, picked}
 use Rattle.settings.proofs.Computing.{computing}
 
 entry : ℕ → ℕ → ℕ → ℕ → Entry
@@ -168,3 +171,24 @@ located_rows : (located (Ok (Board (span 4 9))) ≡ record { refusal = 0; store 
     × (added_to small (Err Full) ≡ record { store = small; refusal = 45; used = 0 })
 unfolding shown
 located_rows = (refl, refl, refl, refl, refl, refl)
+
+-- the number of the entry, where it has this name
+named : ℕ → ℕ → Entry → Option ℕ
+named n k e = cond (eqb e.name n) (Some k) None
+
+-- a walk: each entry once, from the first on, from what stands at the beginning; what is given last, and the number that
+-- an entry has; nothing of a malformed store
+walk_rows : (walked (λ ps e. e.start ∷ ps) [] (stored four 20) ≡ Ok (20 ∷ 15 ∷ 9 ∷ 4 ∷ []))
+    × (walked (λ ps e. e.start ∷ ps) (8 ∷ []) (stored [] 0) ≡ Ok (8 ∷ []))
+    × (walked (λ ps e. e.start ∷ ps) [] (stored four 19) ≡ Err Malformed)
+    × (map (λ (n : ℕ). given_in (named n) (stored four 20)) (5 ∷ 6 ∷ 7 ∷ []) ≡ Ok (Some 3) ∷ Ok (Some 2) ∷ Ok None ∷ [])
+    × (given_in (named 5) (stored four 11) ≡ Ok (Some 1))
+    × (given_in (named 5) (stored [] 0) ≡ Ok None)
+    × (given_in (named 5) (stored four 19) ≡ Err Malformed)
+    × (given_in (picked 2) (stored four 20) ≡ Ok (Some (entry 3 6 15 16)))
+    × (walked (turn (named 6)) (0, None) (stored four 20) ≡ Ok (4, Some 2))
+    × (walked (turn (named 7)) (3, Some 1) (stored four 11) ≡ Ok (5, Some 1))
+    × (told_at_end {T = ℕ} (Ok (4, Some 2)) ≡ Ok (Some 2))
+    × (told_at_end {T = ℕ} (Err Malformed) ≡ Err Malformed)
+unfolding shown named
+walk_rows = (refl, refl, refl, refl, refl, refl, refl, refl, refl, refl, refl, refl)

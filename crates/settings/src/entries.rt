@@ -3,7 +3,7 @@ ghost use Rattle.std.specs.Prelude.{ℕ, Option, ◌≡◌, ◌+◌, ◌≤◌, 
 ghost use Rattle.settings.specs.declared.SettingsRefusal.TheVariants.{Malformed};
 ghost use Rattle.settings.specs.declared.Entry.{Entry as EntryOf};
 ghost use Rattle.settings.specs.Entries.{entry_at, read_entry, entries, stored, last_of, entry_told, nth_of};
-ghost use Rattle.settings.specs.Walks.{Acts, walked, picked};
+ghost use Rattle.settings.specs.Walks.{Acts, walked, given_in, turn, told_at_end, picked};
 
 use crate::{ENTRY_FRONT, Entry, GREATEST_VALUE, SettingsRefusal};
 
@@ -44,13 +44,16 @@ fn read_entry(store: &[u8], at: usize, last: u16) -> Option<Entry>
 }
 
 // What `take` gives of the last of these entries of which it gives something. It gets each with its number, from 0.
-// Each entry says where the next one starts, so the loop is a walk.
+// Each entry says where the next one starts, so the loop is a walk; `in_turn` says it as a fold, one entry's turn after
+// the other's.
 pub(crate) fn walk<T: Copy, F: Fn(usize, Entry) -> Option<T>>(
     store: &[u8],
     take: F,
 ) -> Result<Option<T>, SettingsRefusal>
     requires { F.IsAlwaysCallable take }
-    ensures { (g : ℕ → EntryOf → Option T) → Acts (F.post take) g → result ≡ walked g (entries store.now) }
+    ensures given { (g : ℕ → EntryOf → Option T) → Acts (F.post take) g → result ≡ given_in g (entries store.now) }
+    ensures in_turn { (g : ℕ → EntryOf → Option T) → Acts (F.post take) g
+        → result ≡ told_at_end (walked (turn g) (0, None) (entries store.now)) }
 {
     let mut told: Option<T> = None;
     let mut number: usize = 0;
@@ -105,4 +108,29 @@ pub fn nth_entry(store: &[u8], used: usize, n: usize) -> Result<Option<Entry>, S
         used_bytes(store, used)?,
         |number, entry| picked(number, entry, n),
     )
+}
+
+#[cfg(test)]
+mod tests {
+    use super::*;
+
+    // Name 7 at version 1, with no value, and at version 2, with a value of one byte.
+    const TWO: [u8; 9] = [1, 0, 7, 0, 2, 0, 7, 1, 9];
+
+    #[test]
+    fn a_walk_gives_what_was_given_last(rt: HostRuntime) {
+        let numbered = walk(&TWO, |number, entry| Some((number, entry.version)));
+        assert_eq!(rt; numbered.ok(), Some(Some((1, 2))));
+        let of_the_first = walk(
+            &TWO,
+            |number, entry| if number == 0 { Some(entry.end) } else { None },
+        );
+        assert_eq!(rt; of_the_first.ok(), Some(Some(4)));
+        assert_eq!(rt; walk(&TWO[..0], |number, _| Some(number)).ok(), Some(None));
+        assert_eq!(rt;
+            walk(&TWO[..8], |number, _| Some(number)).ok(),
+            None,
+            "the second entry is cut short"
+        );
+    }
 }

@@ -16,5 +16,5 @@ returns-in_err-used_bytes c =
 pub returns : goal.returns
 returns c =
     let n = c.args.n in
-    let w = c.walk.ensures (picked n) (λ k e b p. search rules) in
+    let w = c.walk.ensures.given (picked n) (λ k e b p. search rules) in
     ap entry_told w ∙ nth_told n _ ∙ ap (nth_of n) (sym c.in_ok-used_bytes.ensures)

@@ -5,9 +5,10 @@ use mathlib.Core.List.{[], ◌∷◌, ◌++◌}
 use Rattle.std.specs.Prelude.{Ok}
 use Rattle.std.specs.Option.{option_or}
 use Rattle.std.proofs.lemmas.List.{length-append}
-use Rattle.settings.specs.Walks.{last_given, walked}
+use Rattle.settings.specs.Entries.{entries}
+use Rattle.settings.specs.Walks.{last_given, given_in}
 use Rattle.settings.proofs.Reading.{known, unread}
-use Rattle.settings.proofs.Folds.{given_next}
+use Rattle.settings.proofs.Folds.{given_next, given_turns}
 use Rattle.settings.proofs.Walks.{walk_begin, walk_end, walk_bad, walk_more}
 use Rattle.settings.proofs.entries.walk.Goals as goal
 use Rattle.settings.proofs.entries.walk.Goals.{in-Some-take, in_default-take}
@@ -15,19 +16,25 @@ use Rattle.settings.proofs.entries.walk.Goals.{in-Some-take, in_default-take}
 pub loop-at-init : goal.loop-at-init
 loop-at-init g c = ([], (walk_begin c.args.store.now, (refl, (omega arith, λ h a. refl))))
 
-pub returns-in_default : goal.returns-in_default
-returns-in_default g c h a =
+pub returns-in_default-clause-given : goal.returns-in_default-clause-given
+returns-in_default-clause-given g c h a =
     let s = c.args.store.now in
     let l = c.loop-at in
     let bad = unread l.last l.at s (sym c.in_default.is ∙ c.read_entry.ensures) in
-    sym (ap (walked h) (walk_bad s l.invariant.0 l.last l.at l.invariant.1.0 (omega arith) bad))
+    sym (ap (given_in h) (walk_bad s l.invariant.0 l.last l.at l.invariant.1.0 (omega arith) bad))
 
-pub returns : goal.returns
-returns g c h a =
+pub returns-in_default-clause-in_turn : goal.returns-in_default-clause-in_turn
+returns-in_default-clause-in_turn g c h a = returns-in_default-clause-given g c h a ∙ given_turns h (entries c.args.store.now)
+
+pub returns-clause-given : goal.returns-clause-given
+returns-clause-given g c h a =
     let s = c.args.store.now in
     let l = c.loop-at in
     let i = l.invariant in
-    ap Ok (i.1.1.1.1 h a) ∙ sym (ap (walked h) (walk_end s i.0 l.last l.at i.1.0 (omega arith)))
+    ap Ok (i.1.1.1.1 h a) ∙ sym (ap (given_in h) (walk_end s i.0 l.last l.at i.1.0 (omega arith)))
+
+pub returns-clause-in_turn : goal.returns-clause-in_turn
+returns-clause-in_turn g c h a = returns-clause-given g c h a ∙ given_turns h (entries c.args.store.now)
 
 pub loop-at-smaller : goal.loop-at-smaller
 loop-at-smaller g c =
